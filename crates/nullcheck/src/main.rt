@@ -1,6 +1,7 @@
 //! Checks the files that the words name, or runs their main: says on standard error what went wrong, and ends with the status's number.
 #![tactic(auto)]
 
+use jn_causes::Causes;
 use jn_cli::usage_reason;
 use jn_host::Host;
 use jn_outside::{HostFiles, HostSink};
@@ -22,6 +23,7 @@ fn done<R: Threads + Sync>(
     let mut reporters: Vec<Box<dyn Reporter>> = Vec::new(alloc);
     reporters.push(Box::new(alloc, Plain::new(alloc))?)?;
     reporters.push(Box::new(alloc, Long::new(alloc))?)?;
+    reporters.push(Box::new(alloc, Causes::new(alloc))?)?;
     reporters.push(Box::new(alloc, Tabbed::new(alloc))?)?;
     reporters.push(Box::new(alloc, Summary::new(alloc))?)?;
     reporters.push(Box::new(alloc, Github::new(alloc))?)?;
