@@ -101,6 +101,7 @@ cases+=(
   "R.java R.java"
   "--report tabbed Orders.java"
   "--report long Orders.java"
+  "--report causes Orders.java"
   "--report summary Orders.java"
   "--report github Orders.java"
   "--report checkstyle Orders.java"
