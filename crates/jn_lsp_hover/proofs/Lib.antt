@@ -1,0 +1,6 @@
+pub mod Fitting
+pub mod Searching
+pub mod Inside
+pub mod Declaring
+pub mod Shown
+pub mod Least

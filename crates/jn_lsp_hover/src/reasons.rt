@@ -1,0 +1,106 @@
+//! Why a slot has its bits.
+ghost use Rattle.std.specs.Prelude.{◌≡◌, ◌++◌, IfOk, OnOk, slice_index_or};
+ghost use Rattle.jn_inference_law.specs.Solution.{IsLeastSignature};
+ghost use Rattle.jn_notes.specs.Noted.{AreFrom, AreLeastTables};
+ghost use Rattle.jn_notes.specs.Owned.{AreOwners};
+ghost use Rattle.jn_quals.specs.Order.{no_qual};
+ghost use Rattle.jn_reasons_law.specs.Items.{on};
+ghost use Rattle.jn_tables_law.specs.Inferable.{IsInferable};
+ghost use Rattle.jn_lsp_hover.specs.Hovered.{AreReasons, bit_item};
+
+use crate::solved::Solved;
+use jn_base::{OutOfMemory, SlotNo};
+use jn_notes::explain::{no_notes, notes_from};
+use jn_notes::owners::Owner;
+use jn_notes::{Note, Notes};
+use jn_origins::LeastOrigins;
+use jn_origins::law::{least_tables_are_sized, what_stands_has_a_chain};
+use jn_quals::Qual;
+use jn_reasons_law::{Bit, Item};
+use std::alloc::{AllocError, Global};
+
+fn is_on(qual: Qual, bit: Bit) -> bool
+    ensures { result ≡ on bit qual }
+{
+    match bit {
+        Bit::Nullable => qual.has_null(),
+        Bit::Committed => qual.has_committed(),
+        Bit::Free => qual.has_free(),
+    }
+}
+
+/// The notes of the first chain of a bit, where the slot has it.
+fn notes_of_bit(
+    alloc: Global,
+    solved: &Solved,
+    origins: &LeastOrigins,
+    owners: &[Option<Owner>],
+    slot: u32,
+    bit: Bit,
+) -> Result<Notes, OutOfMemory>
+    requires inferable { IsInferable solved.now.program.now }
+    requires least { IsLeastSignature solved.now.program.now solved.now.sig.now }
+    requires solved { AreLeastTables solved.now.program.now solved.now.sig.now solved.now.tables.now }
+    requires program { origins.now.program ≡ solved.now.program.now }
+    requires sig { origins.now.sig ≡ solved.now.sig.now }
+    requires tables { origins.now.tables ≡ solved.now.tables.now }
+    requires owners { AreOwners solved.now.program.now owners.now }
+    ensures { IfOk result (λ notes.
+        AreFrom solved.now.program.now solved.now.names.now solved.now.sig.now solved.now.tables.now
+        (bit_item slot (slice_index_or solved.now.sig.now slot no_qual) bit) notes) }
+{
+    what_stands_has_a_chain();
+    least_tables_are_sized();
+    if is_on(solved.sig.get(SlotNo(slot)), bit) {
+        notes_from(
+            alloc,
+            solved.program,
+            solved.names,
+            solved.sig,
+            solved.tables,
+            origins,
+            owners,
+            Item::AtSlot(slot, bit),
+        )
+    } else {
+        Ok(no_notes(alloc))
+    }
+}
+
+/// These notes, and then the others.
+fn joined(notes: Notes, others: Notes) -> Result<Vec<Note>, AllocError>
+    ensures { IfOk result (λ all. all.items ≡ notes.shown ++ others.shown) }
+{
+    let mut all = notes.shown.into_vec();
+    let mut more = others.shown.into_vec();
+    all.append(&mut more)?;
+    Ok(all)
+}
+
+/// The notes of the first chain of each bit that a slot has: that it may be null, and then that it may be under construction.
+///
+/// # Errors
+/// No memory was found.
+pub fn reasons_of(
+    alloc: Global,
+    solved: &Solved,
+    origins: &LeastOrigins,
+    owners: &[Option<Owner>],
+    slot: u32,
+) -> Result<Vec<Note>, OutOfMemory>
+    requires inferable { IsInferable solved.now.program.now }
+    requires least { IsLeastSignature solved.now.program.now solved.now.sig.now }
+    requires solved { AreLeastTables solved.now.program.now solved.now.sig.now solved.now.tables.now }
+    requires program { origins.now.program ≡ solved.now.program.now }
+    requires sig { origins.now.sig ≡ solved.now.sig.now }
+    requires tables { origins.now.tables ≡ solved.now.tables.now }
+    requires owners { AreOwners solved.now.program.now owners.now }
+    ensures { IfOk result (λ notes.
+        AreReasons solved.now.files.now solved.now.names.now solved.now.program.now
+        solved.now.sig.now solved.now.tables.now slot notes.items) }
+{
+    let null = notes_of_bit(alloc, solved, origins, owners, slot, Bit::Nullable)?;
+    let free = notes_of_bit(alloc, solved, origins, owners, slot, Bit::Free)?;
+    let all = joined(null, free)?;
+    Ok(all)
+}
