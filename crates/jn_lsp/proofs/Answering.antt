@@ -5,10 +5,12 @@ use Rattle.std.proofs.lemmas.Grind.{flat_map-append}
 use Rattle.jn_base.specs.declared.infer.Infer.{Infer}
 use Rattle.jn_lsp_text.specs.declared.id.Id.{Id}
 use Rattle.jn_lsp_text.specs.declared.message.Message.{Message}
-use Rattle.jn_lsp_text.specs.declared.message.Message.TheVariants.{Initialize, Initialized, DidOpen, DidChange, DidSave, DidClose, WatchedFiles, CodeAction, InlayHint, Shutdown, Exit, Ignored, Unknown, BadDocument, BadParams, NoMessage, NoJson, BadHeader, TooLarge}
+use Rattle.jn_lsp_text.specs.declared.message.Message.TheVariants.{Initialize, Initialized, DidOpen, DidChange, DidSave, DidClose, WatchedFiles, CodeAction, InlayHint, Hover as HoverAsked, Shutdown, Exit, Ignored, Unknown, BadDocument, BadParams, NoMessage, NoJson, BadHeader, TooLarge}
 use Rattle.jn_lsp_text.specs.declared.reply.Action.{Action}
 use Rattle.jn_lsp_text.specs.declared.reply.Failure.{Failure}
+use Rattle.jn_lsp_text.specs.declared.markup.Markup.{Markup}
 use Rattle.jn_lsp_text.specs.declared.reply.Hint.{Hint}
+use Rattle.jn_lsp_text.specs.declared.reply.Hover.{Hover}
 use Rattle.jn_lsp_text.specs.declared.reply.Reply.{Reply}
 use Rattle.jn_lsp.specs.declared.versions.Version.{Version}
 use Rattle.jn_lsp.specs.declared.diagnostics.Told.{Told}
@@ -47,7 +49,7 @@ refused failure None = refl
 refused failure (Some id) = refl
 
 waiting_one : (message : Message) → IsAnswer (waiting_answer message) (id_asked message)
-waiting_one (Initialize id folder infer files exclude) = refl
+waiting_one (Initialize id folder infer files exclude markup) = refl
 waiting_one Initialized = refl
 waiting_one (DidOpen name version text) = refl
 waiting_one (DidChange name version changes) = refl
@@ -56,6 +58,7 @@ waiting_one (DidClose name) = refl
 waiting_one WatchedFiles = refl
 waiting_one (CodeAction id name range) = refl
 waiting_one (InlayHint id name range) = refl
+waiting_one (HoverAsked id name position) = refl
 waiting_one (Shutdown id) = refl
 waiting_one Exit = refl
 waiting_one Ignored = refl
@@ -67,29 +70,30 @@ waiting_one NoJson = refl
 waiting_one BadHeader = refl
 waiting_one TooLarge = refl
 
-serving_one : (actions : List Action) (hints : List Hint) (message : Message) → IsAnswer (serving_answer actions hints message) (id_asked message)
-serving_one actions hints (Initialize id folder infer files exclude) = refl
-serving_one actions hints Initialized = refl
-serving_one actions hints (DidOpen name version text) = refl
-serving_one actions hints (DidChange name version changes) = refl
-serving_one actions hints (DidSave name) = refl
-serving_one actions hints (DidClose name) = refl
-serving_one actions hints WatchedFiles = refl
-serving_one actions hints (CodeAction id name range) = refl
-serving_one actions hints (InlayHint id name range) = refl
-serving_one actions hints (Shutdown id) = refl
-serving_one actions hints Exit = refl
-serving_one actions hints Ignored = refl
-serving_one actions hints (Unknown id) = refl
-serving_one actions hints (BadDocument name) = refl
-serving_one actions hints (BadParams id) = refused _ id
-serving_one actions hints NoMessage = refl
-serving_one actions hints NoJson = refl
-serving_one actions hints BadHeader = refl
-serving_one actions hints TooLarge = refl
+serving_one : (markup : Markup) (actions : List Action) (hints : List Hint) (hover : Option Hover) (message : Message) → IsAnswer (serving_answer markup actions hints hover message) (id_asked message)
+serving_one markup actions hints hover (Initialize id folder infer files exclude other) = refl
+serving_one markup actions hints hover Initialized = refl
+serving_one markup actions hints hover (DidOpen name version text) = refl
+serving_one markup actions hints hover (DidChange name version changes) = refl
+serving_one markup actions hints hover (DidSave name) = refl
+serving_one markup actions hints hover (DidClose name) = refl
+serving_one markup actions hints hover WatchedFiles = refl
+serving_one markup actions hints hover (CodeAction id name range) = refl
+serving_one markup actions hints hover (InlayHint id name range) = refl
+serving_one markup actions hints hover (HoverAsked id name position) = refl
+serving_one markup actions hints hover (Shutdown id) = refl
+serving_one markup actions hints hover Exit = refl
+serving_one markup actions hints hover Ignored = refl
+serving_one markup actions hints hover (Unknown id) = refl
+serving_one markup actions hints hover (BadDocument name) = refl
+serving_one markup actions hints hover (BadParams id) = refused _ id
+serving_one markup actions hints hover NoMessage = refl
+serving_one markup actions hints hover NoJson = refl
+serving_one markup actions hints hover BadHeader = refl
+serving_one markup actions hints hover TooLarge = refl
 
 late_one : (message : Message) → IsAnswer (late_answer message) (id_asked message)
-late_one (Initialize id folder infer files exclude) = refl
+late_one (Initialize id folder infer files exclude markup) = refl
 late_one Initialized = refl
 late_one (DidOpen name version text) = refl
 late_one (DidChange name version changes) = refl
@@ -98,6 +102,7 @@ late_one (DidClose name) = refl
 late_one WatchedFiles = refl
 late_one (CodeAction id name range) = refl
 late_one (InlayHint id name range) = refl
+late_one (HoverAsked id name position) = refl
 late_one (Shutdown id) = refl
 late_one Exit = refl
 late_one Ignored = refl
@@ -124,11 +129,11 @@ IsGone Serving = ⊥
 IsGone ShutDown = ⊥
 IsGone (Exited in_order) = Unit {0}
 
-answer_one : (actions : List Action) (hints : List Hint) (phase : Phase) (message : Message) → IsLive phase → IsAnswer (answer_of actions hints phase message) (id_asked message)
-answer_one actions hints Waiting message live = waiting_one message
-answer_one actions hints Serving message live = serving_one actions hints message
-answer_one actions hints ShutDown message live = late_one message
-answer_one actions hints (Exited in_order) _ live = absurd live
+answer_one : (markup : Markup) (actions : List Action) (hints : List Hint) (hover : Option Hover) (phase : Phase) (message : Message) → IsLive phase → IsAnswer (answer_of markup actions hints hover phase message) (id_asked message)
+answer_one markup actions hints hover Waiting message live = waiting_one message
+answer_one markup actions hints hover Serving message live = serving_one markup actions hints hover message
+answer_one markup actions hints hover ShutDown message live = late_one message
+answer_one markup actions hints hover (Exited in_order) _ live = absurd live
 
 -- warnings answer nothing
 warned : (server : ServerOf) (message : Message) (answer : Option Reply) → ids_answered (option_to_list answer ++ doubts_in server.phase message server.workspace.documents server.workspace.unknown) ≡ ids_answered (option_to_list answer)
@@ -140,24 +145,24 @@ warned server message answer =
     ∙ append-nil (ids_answered (option_to_list answer))
 
 answers_one : (server : ServerOf) (event : Event) (direct : List Reply) → AreAnswers server.phase server.told server.workspace event direct → IsLive server.phase → ids_answered direct ≡ option_to_list (id_in event)
-answers_one server (MessageEvent message) direct (actions, offered, hints, shown, e) live = ap ids_answered e ∙ warned server message (answer_of actions hints server.phase message) ∙ answer_one actions hints server.phase message live
+answers_one server (MessageEvent message) direct (actions, offered, hints, shown, hover, told, e) live = ap ids_answered e ∙ warned server message (answer_of server.workspace.markup actions hints hover server.phase message) ∙ answer_one server.workspace.markup actions hints hover server.phase message live
 answers_one server (Folder files) direct e live = ap ids_answered e
 
-answer_none : (actions : List Action) (hints : List Hint) (phase : Phase) (message : Message) → IsGone phase → IsAnswer (answer_of actions hints phase message) None
-answer_none actions hints Waiting _ gone = absurd gone
-answer_none actions hints Serving _ gone = absurd gone
-answer_none actions hints ShutDown _ gone = absurd gone
-answer_none actions hints (Exited in_order) _ gone = refl
+answer_none : (markup : Markup) (actions : List Action) (hints : List Hint) (hover : Option Hover) (phase : Phase) (message : Message) → IsGone phase → IsAnswer (answer_of markup actions hints hover phase message) None
+answer_none markup actions hints hover Waiting _ gone = absurd gone
+answer_none markup actions hints hover Serving _ gone = absurd gone
+answer_none markup actions hints hover ShutDown _ gone = absurd gone
+answer_none markup actions hints hover (Exited in_order) _ gone = refl
 
 answers_none : (server : ServerOf) (event : Event) (direct : List Reply) → AreAnswers server.phase server.told server.workspace event direct → IsGone server.phase → ids_answered direct ≡ []
-answers_none server (MessageEvent message) direct (actions, offered, hints, shown, e) gone = ap ids_answered e ∙ warned server message (answer_of actions hints server.phase message) ∙ answer_none actions hints server.phase message gone
+answers_none server (MessageEvent message) direct (actions, offered, hints, shown, hover, told, e) gone = ap ids_answered e ∙ warned server message (answer_of server.workspace.markup actions hints hover server.phase message) ∙ answer_none server.workspace.markup actions hints hover server.phase message gone
 answers_none server (Folder files) direct e gone = ap ids_answered e
 
 clash : {X : Type 0} → true ≡ false → X
 clash e = absurd (cc)
 
 waiting_on : (message : Message) → is_exit (MessageEvent message) ≡ false → IsLive (phase_behind Waiting message)
-waiting_on (Initialize id folder infer files exclude) e = tt
+waiting_on (Initialize id folder infer files exclude markup) e = tt
 waiting_on Initialized e = tt
 waiting_on (DidOpen name version text) e = tt
 waiting_on (DidChange name version changes) e = tt
@@ -166,6 +171,7 @@ waiting_on (DidClose name) e = tt
 waiting_on WatchedFiles e = tt
 waiting_on (CodeAction id name range) e = tt
 waiting_on (InlayHint id name range) e = tt
+waiting_on (HoverAsked id name position) e = tt
 waiting_on (Shutdown id) e = tt
 waiting_on Exit e = clash e
 waiting_on Ignored e = tt
@@ -178,7 +184,7 @@ waiting_on BadHeader e = tt
 waiting_on TooLarge e = tt
 
 serving_on : (message : Message) → is_exit (MessageEvent message) ≡ false → IsLive (phase_behind Serving message)
-serving_on (Initialize id folder infer files exclude) e = tt
+serving_on (Initialize id folder infer files exclude markup) e = tt
 serving_on Initialized e = tt
 serving_on (DidOpen name version text) e = tt
 serving_on (DidChange name version changes) e = tt
@@ -187,6 +193,7 @@ serving_on (DidClose name) e = tt
 serving_on WatchedFiles e = tt
 serving_on (CodeAction id name range) e = tt
 serving_on (InlayHint id name range) e = tt
+serving_on (HoverAsked id name position) e = tt
 serving_on (Shutdown id) e = tt
 serving_on Exit e = clash e
 serving_on Ignored e = tt
@@ -199,7 +206,7 @@ serving_on BadHeader e = tt
 serving_on TooLarge e = tt
 
 shut_down_on : (message : Message) → is_exit (MessageEvent message) ≡ false → IsLive (phase_behind ShutDown message)
-shut_down_on (Initialize id folder infer files exclude) e = tt
+shut_down_on (Initialize id folder infer files exclude markup) e = tt
 shut_down_on Initialized e = tt
 shut_down_on (DidOpen name version text) e = tt
 shut_down_on (DidChange name version changes) e = tt
@@ -208,6 +215,7 @@ shut_down_on (DidClose name) e = tt
 shut_down_on WatchedFiles e = tt
 shut_down_on (CodeAction id name range) e = tt
 shut_down_on (InlayHint id name range) e = tt
+shut_down_on (HoverAsked id name position) e = tt
 shut_down_on (Shutdown id) e = tt
 shut_down_on Exit e = clash e
 shut_down_on Ignored e = tt
@@ -229,7 +237,7 @@ live_on Serving (Folder files) live e = tt
 live_on ShutDown (Folder files) live e = tt
 
 exit_is : (message : Message) → is_exit (MessageEvent message) ≡ true → message ≡ Exit
-exit_is (Initialize id folder infer files exclude) e = clash (sym e)
+exit_is (Initialize id folder infer files exclude markup) e = clash (sym e)
 exit_is Initialized e = clash (sym e)
 exit_is (DidOpen name version text) e = clash (sym e)
 exit_is (DidChange name version changes) e = clash (sym e)
@@ -238,6 +246,7 @@ exit_is (DidClose name) e = clash (sym e)
 exit_is WatchedFiles e = clash (sym e)
 exit_is (CodeAction id name range) e = clash (sym e)
 exit_is (InlayHint id name range) e = clash (sym e)
+exit_is (HoverAsked id name position) e = clash (sym e)
 exit_is (Shutdown id) e = clash (sym e)
 exit_is Exit e = refl
 exit_is Ignored e = clash (sym e)

@@ -6,6 +6,7 @@ use Rattle.jn_front.specs.declared.source.SourceFile.{SourceFile}
 use Rattle.jn_lsp_text.specs.declared.choice.Choice.{Choice}
 use Rattle.jn_lsp_text.specs.declared.choice.Choice.TheVariants as choice
 use Rattle.jn_lsp_text.specs.declared.reply.Diagnostic.{Diagnostic}
+use Rattle.jn_lsp_text.specs.declared.markup.Markup.TheVariants.{Plain}
 use Rattle.jn_lsp_text.specs.declared.message.Message.{Message}
 use Rattle.jn_lsp.specs.declared.diagnostics.Told.{Told}
 use Rattle.jn_lsp.specs.declared.documents.Workspace.{Workspace}
@@ -52,7 +53,7 @@ told_known workspace last came files unknown found all told e f same is h = reco
   told_is = h ∙ ap (hushed unknown) same ∙ ap (λ u. hushed u all) f;
 }
 
-pub told_nothing : (infer : Infer) (workspace : Workspace) (last : LastReport) (told : List Told) → workspace ≡ workspace_of infer [] [] [] [] → told ≡ [] → (came : Bool) × (all : List Told) × AreToldOf workspace last came all told
+pub told_nothing : (infer : Infer) (workspace : Workspace) (last : LastReport) (told : List Told) → workspace ≡ workspace_of infer Plain [] [] [] [] → told ≡ [] → (came : Bool) × (all : List Told) × AreToldOf workspace last came all told
 told_nothing infer workspace last told e none = (false, [], subst (λ w. AreToldOf w last false [] told) (sym e) (record { is = (refl, refl); told_is = none }))
 
 -- ---- warnings

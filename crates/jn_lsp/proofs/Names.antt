@@ -3,7 +3,6 @@ use Rattle.std.proofs.Common.{◌≡◌, ℕ, zero, suc, ◌+◌, ◌^◌, ◌<�
 use Rattle.std.specs.Prelude.{nat_le, slice_get}
 use Rattle.std.proofs.lemmas.List.{length-replicate, map_more, map_push, take_more}
 use Rattle.std.proofs.lemmas.List.Elements.{filter-append}
-use Rattle.std.proofs.lemmas.Option.{slice_get_read}
 use Rattle.std.proofs.lemmas.Slice.Eq.{bytes_eq-Decides}
 use Rattle.std.proofs.lemmas.Bool.Decides.{nat_tests}
 use Rattle.std.specs.Bool.{one_answer}
@@ -175,18 +174,6 @@ fit_standing documents (file ∷ files) = (fits (document_or (document_of file.n
 
 pub stand_fits : (disk documents : List SourceFile) → AllFit (stand disk documents)
 stand_fits disk documents = fit_firsts (map (standing documents) (disk ++ documents)) (fit_standing documents (disk ++ documents))
-
-fit_at : (files : List SourceFile) (at : ℕ) (file : SourceFile) → AllFit files → slice_get files at ≡ Some file → length file.bytes ≤ 1048577
-fit_at [] at file fit e = absurd (cc)
-fit_at (x ∷ xs) zero file fit e = let same : x ≡ file = cc in subst (λ (f : SourceFile). length f.bytes ≤ 1048577) same fit.0
-fit_at (x ∷ xs) (suc at) file fit e = fit_at xs at file fit.1 e
-
--- bytes of a file that fits are counted
-pub small_at : (files : List SourceFile) (at : ℕ) (file : SourceFile) (text : List ℕ) → AllFit files → at < length files → file ≡ get_or files at file → text ≡ file.bytes → length text < 2 ^ 30
-small_at files at file text fit lt is e =
-    let h = fit_at files at file fit (slice_get_read files (length files) at file refl lt is) in
-    let same = ap (λ (t : List ℕ). length t) e in
-    omega (arith, h, same)
 
 pub stand_own : (disk documents : List SourceFile) → AreOwn (stand disk documents)
 stand_own disk documents = firsts_own (map (standing documents) (disk ++ documents))

@@ -6,12 +6,14 @@ use Rattle.jn_command.specs.declared.report.Report.{Report}
 use Rattle.jn_command.specs.declared.report.Report.TheVariants.{Refused, Checked}
 use Rattle.jn_front.specs.declared.source.SourceFile.{SourceFile}
 use Rattle.jn_lsp_text.specs.declared.id.Id.{Id}
+use Rattle.jn_lsp_text.specs.declared.markup.Markup.{Markup}
 use Rattle.jn_lsp_text.specs.declared.message.Message.{Message}
-use Rattle.jn_lsp_text.specs.declared.message.Message.TheVariants.{Initialize, Initialized, DidOpen, DidChange, DidSave, DidClose, WatchedFiles, CodeAction, InlayHint, Shutdown, Exit, Ignored, Unknown, BadDocument, BadParams, NoMessage, NoJson, BadHeader, TooLarge}
+use Rattle.jn_lsp_text.specs.declared.message.Message.TheVariants.{Initialize, Initialized, DidOpen, DidChange, DidSave, DidClose, WatchedFiles, CodeAction, InlayHint, Hover as HoverAsked, Shutdown, Exit, Ignored, Unknown, BadDocument, BadParams, NoMessage, NoJson, BadHeader, TooLarge}
 use Rattle.jn_lsp_text.specs.declared.reply.Action.{Action}
 use Rattle.jn_lsp_text.specs.declared.reply.Diagnostic.{Diagnostic}
 use Rattle.jn_lsp_text.specs.declared.reply.Failure.{Failure}
 use Rattle.jn_lsp_text.specs.declared.reply.Hint.{Hint}
+use Rattle.jn_lsp_text.specs.declared.reply.Hover.{Hover}
 use Rattle.jn_lsp_text.specs.declared.reply.Reply.{Reply}
 use Rattle.jn_notes.specs.declared.note.Notes.{Notes}
 use Rattle.jn_lsp.specs.declared.diagnostics.Told.{Told}
@@ -42,7 +44,7 @@ module _ (name : List ℕ) (last : List Diagnostic) where
   refusal_silent failure (Some id) = refl
 
   waiting_silent : (message : Message) → IsSilent (waiting_answer message)
-  waiting_silent (Initialize id folder infer files exclude) = refl
+  waiting_silent (Initialize id folder infer files exclude markup) = refl
   waiting_silent Initialized = refl
   waiting_silent (DidOpen named version text) = refl
   waiting_silent (DidChange named version changes) = refl
@@ -51,6 +53,7 @@ module _ (name : List ℕ) (last : List Diagnostic) where
   waiting_silent WatchedFiles = refl
   waiting_silent (CodeAction id named range) = refl
   waiting_silent (InlayHint id named range) = refl
+  waiting_silent (HoverAsked id named position) = refl
   waiting_silent (Shutdown id) = refl
   waiting_silent Exit = refl
   waiting_silent Ignored = refl
@@ -62,29 +65,30 @@ module _ (name : List ℕ) (last : List Diagnostic) where
   waiting_silent BadHeader = refl
   waiting_silent TooLarge = refl
 
-  serving_silent : (actions : List Action) (hints : List Hint) (message : Message) → IsSilent (serving_answer actions hints message)
-  serving_silent actions hints (Initialize id folder infer files exclude) = refl
-  serving_silent actions hints Initialized = refl
-  serving_silent actions hints (DidOpen named version text) = refl
-  serving_silent actions hints (DidChange named version changes) = refl
-  serving_silent actions hints (DidSave named) = refl
-  serving_silent actions hints (DidClose named) = refl
-  serving_silent actions hints WatchedFiles = refl
-  serving_silent actions hints (CodeAction id named range) = refl
-  serving_silent actions hints (InlayHint id named range) = refl
-  serving_silent actions hints (Shutdown id) = refl
-  serving_silent actions hints Exit = refl
-  serving_silent actions hints Ignored = refl
-  serving_silent actions hints (Unknown id) = refl
-  serving_silent actions hints (BadDocument named) = refl
-  serving_silent actions hints (BadParams id) = refusal_silent _ id
-  serving_silent actions hints NoMessage = refl
-  serving_silent actions hints NoJson = refl
-  serving_silent actions hints BadHeader = refl
-  serving_silent actions hints TooLarge = refl
+  serving_silent : (markup : Markup) (actions : List Action) (hints : List Hint) (hover : Option Hover) (message : Message) → IsSilent (serving_answer markup actions hints hover message)
+  serving_silent markup actions hints hover (Initialize id folder infer files exclude other) = refl
+  serving_silent markup actions hints hover Initialized = refl
+  serving_silent markup actions hints hover (DidOpen named version text) = refl
+  serving_silent markup actions hints hover (DidChange named version changes) = refl
+  serving_silent markup actions hints hover (DidSave named) = refl
+  serving_silent markup actions hints hover (DidClose named) = refl
+  serving_silent markup actions hints hover WatchedFiles = refl
+  serving_silent markup actions hints hover (CodeAction id named range) = refl
+  serving_silent markup actions hints hover (InlayHint id named range) = refl
+  serving_silent markup actions hints hover (HoverAsked id named position) = refl
+  serving_silent markup actions hints hover (Shutdown id) = refl
+  serving_silent markup actions hints hover Exit = refl
+  serving_silent markup actions hints hover Ignored = refl
+  serving_silent markup actions hints hover (Unknown id) = refl
+  serving_silent markup actions hints hover (BadDocument named) = refl
+  serving_silent markup actions hints hover (BadParams id) = refusal_silent _ id
+  serving_silent markup actions hints hover NoMessage = refl
+  serving_silent markup actions hints hover NoJson = refl
+  serving_silent markup actions hints hover BadHeader = refl
+  serving_silent markup actions hints hover TooLarge = refl
 
   late_silent : (message : Message) → IsSilent (late_answer message)
-  late_silent (Initialize id folder infer files exclude) = refl
+  late_silent (Initialize id folder infer files exclude markup) = refl
   late_silent Initialized = refl
   late_silent (DidOpen named version text) = refl
   late_silent (DidChange named version changes) = refl
@@ -93,6 +97,7 @@ module _ (name : List ℕ) (last : List Diagnostic) where
   late_silent WatchedFiles = refl
   late_silent (CodeAction id named range) = refl
   late_silent (InlayHint id named range) = refl
+  late_silent (HoverAsked id named position) = refl
   late_silent (Shutdown id) = refl
   late_silent Exit = refl
   late_silent Ignored = refl
@@ -104,19 +109,19 @@ module _ (name : List ℕ) (last : List Diagnostic) where
   late_silent BadHeader = refl
   late_silent TooLarge = refl
 
-  answer_silent : (actions : List Action) (hints : List Hint) (phase : Phase) (message : Message) → IsSilent (answer_of actions hints phase message)
-  answer_silent actions hints Waiting message = waiting_silent message
-  answer_silent actions hints Serving message = serving_silent actions hints message
-  answer_silent actions hints ShutDown message = late_silent message
-  answer_silent actions hints (Exited in_order) _ = refl
+  answer_silent : (markup : Markup) (actions : List Action) (hints : List Hint) (hover : Option Hover) (phase : Phase) (message : Message) → IsSilent (answer_of markup actions hints hover phase message)
+  answer_silent markup actions hints hover Waiting message = waiting_silent message
+  answer_silent markup actions hints hover Serving message = serving_silent markup actions hints hover message
+  answer_silent markup actions hints hover ShutDown message = late_silent message
+  answer_silent markup actions hints hover (Exited in_order) _ = refl
 
   answers_silent : (server : ServerOf) (event : Event) (direct : List Reply) → AreAnswers server.phase server.told server.workspace event direct → last_published name last direct ≡ last
-  answers_silent server (MessageEvent message) direct (actions, offered, hints, shown, e) =
-      let answer = option_to_list (answer_of actions hints server.phase message) in
+  answers_silent server (MessageEvent message) direct (actions, offered, hints, shown, hover, told, e) =
+      let answer = option_to_list (answer_of server.workspace.markup actions hints hover server.phase message) in
       let warnings = doubts_in server.phase message server.workspace.documents server.workspace.unknown in
       ap (last_published name last) e
       ∙ last_both name last answer warnings
-      ∙ ap (λ l. last_published name l warnings) (answer_silent actions hints server.phase message)
+      ∙ ap (λ l. last_published name l warnings) (answer_silent server.workspace.markup actions hints hover server.phase message)
       ∙ doubts_silent name last server.phase message server.workspace.documents server.workspace.unknown
   answers_silent server (Folder files) direct e = ap (last_published name last) e
 

@@ -6,7 +6,7 @@ use Rattle.jn_lsp_text.specs.Ranges.{IsReplaced}
 use Rattle.jn_lsp_text.specs.declared.message.Change.{Change}
 use Rattle.jn_lsp_text.specs.declared.message.Change.TheVariants.{Whole, Part}
 use Rattle.jn_lsp_text.specs.declared.message.Message.{Message}
-use Rattle.jn_lsp_text.specs.declared.message.Message.TheVariants.{Initialize, Initialized, DidOpen, DidChange, DidSave, DidClose, WatchedFiles, CodeAction, InlayHint, Shutdown, Exit, Ignored, Unknown, BadDocument, BadParams, NoMessage, NoJson, BadHeader, TooLarge}
+use Rattle.jn_lsp_text.specs.declared.message.Message.TheVariants.{Initialize, Initialized, DidOpen, DidChange, DidSave, DidClose, WatchedFiles, CodeAction, InlayHint, Hover, Shutdown, Exit, Ignored, Unknown, BadDocument, BadParams, NoMessage, NoJson, BadHeader, TooLarge}
 use Rattle.jn_recheck.specs.Files.{with_file, without_file}
 use Rattle.jn_lsp.specs.Names.{is_among}
 use Rattle.jn_lsp.specs.Stand.{document_of}
@@ -55,12 +55,13 @@ abbrev pub AreEdited : List (List ℕ) → Message → List SourceFile → Optio
 AreEdited unknown (DidOpen name version text) documents after = after ≡ opened name text documents
 AreEdited unknown (DidChange name version changes) documents after = IsTyped name changes documents (known_document unknown name documents) after
 AreEdited unknown (DidClose name) documents after = after ≡ closed name documents
-AreEdited unknown (Initialize id folder infer files exclude) documents after = after ≡ None
+AreEdited unknown (Initialize id folder infer files exclude markup) documents after = after ≡ None
 AreEdited unknown Initialized documents after = after ≡ None
 AreEdited unknown (DidSave name) documents after = after ≡ None
 AreEdited unknown WatchedFiles documents after = after ≡ None
 AreEdited unknown (CodeAction id name range) documents after = after ≡ None
 AreEdited unknown (InlayHint id name range) documents after = after ≡ None
+AreEdited unknown (Hover id name position) documents after = after ≡ None
 AreEdited unknown (Shutdown id) documents after = after ≡ None
 AreEdited unknown Exit documents after = after ≡ None
 AreEdited unknown Ignored documents after = after ≡ None

@@ -8,5 +8,6 @@ pub mod Unknown
 pub mod Tracking
 pub mod Publications
 pub mod Hinting
+pub mod Hovering
 pub mod Serving
 pub mod Requests

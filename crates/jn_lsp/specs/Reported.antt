@@ -12,6 +12,7 @@ use Rattle.jn_command.specs.declared.report.Report.TheVariants.{Refused, Checked
 use Rattle.jn_command.specs.Reports.{rows_of, verdict_of}
 use Rattle.jn_diag.specs.declared.shown.Verdict.{Verdict}
 use Rattle.jn_front.specs.declared.source.SourceFile.{SourceFile}
+use Rattle.jn_lsp_hover.specs.Related.{home_of, no_file, range_in}
 use Rattle.jn_lsp_text.specs.declared.reply.Diagnostic.{Diagnostic}
 use Rattle.jn_lsp_text.specs.declared.reply.Related.{Related}
 use Rattle.jn_lsp_text.specs.declared.reply.Said.TheVariants.{Unchecked}
@@ -24,7 +25,7 @@ use Rattle.jn_report.specs.Report.{IsReport}
 use Rattle.jn_lsp.specs.declared.diagnostics.Told.{Told}
 use Rattle.jn_lsp.specs.declared.unchecked.LastReport.{LastReport}
 use Rattle.jn_lsp.specs.Front.{front}
-use Rattle.jn_lsp.specs.Telling.{diagnostics_at, home_of, no_file, range_in, told_from, told_of}
+use Rattle.jn_lsp.specs.Telling.{diagnostics_at, told_from, told_of}
 
 -- ---- the last report that came to the rules
 

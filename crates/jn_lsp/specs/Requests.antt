@@ -3,17 +3,18 @@ use Rattle.std.specs.Prelude.{◌≡◌, ◌++◌, Bool, true, false, List, [], 
 use Rattle.std.specs.List.{flat_map}
 use Rattle.jn_lsp_text.specs.declared.id.Id.{Id}
 use Rattle.jn_lsp_text.specs.declared.message.Message.{Message}
-use Rattle.jn_lsp_text.specs.declared.message.Message.TheVariants.{Initialize, CodeAction, InlayHint, Shutdown, Exit, Unknown, BadParams}
+use Rattle.jn_lsp_text.specs.declared.message.Message.TheVariants.{Initialize, CodeAction, InlayHint, Hover, Shutdown, Exit, Unknown, BadParams}
 use Rattle.jn_lsp_text.specs.declared.reply.Reply.{Reply}
-use Rattle.jn_lsp_text.specs.declared.reply.Reply.TheVariants.{Capabilities, Done, Refusal, Actions, Hints}
+use Rattle.jn_lsp_text.specs.declared.reply.Reply.TheVariants.{Capabilities, Done, Refusal, Actions, Hints, Hovered}
 use Rattle.jn_lsp.specs.declared.event.Event.{Event}
 use Rattle.jn_lsp.specs.declared.event.Event.TheVariants.{Folder, Message as MessageEvent}
 
 -- the id of a request; a notification has none, nor what can't be read
 abbrev pub id_asked : Message → Option Id
-id_asked (Initialize id folder infer files exclude) = Some id
+id_asked (Initialize id folder infer files exclude markup) = Some id
 id_asked (CodeAction id name range) = Some id
 id_asked (InlayHint id name range) = Some id
+id_asked (Hover id name position) = Some id
 id_asked (Shutdown id) = Some id
 id_asked (Unknown id) = Some id
 id_asked (BadParams id) = id
@@ -26,6 +27,7 @@ id_answered (Done id) = Some id
 id_answered (Refusal id failure) = id
 id_answered (Actions id actions) = Some id
 id_answered (Hints id hints) = Some id
+id_answered (Hovered id markup hover) = Some id
 id_answered _ = None
 
 abbrev pub is_exit : Event → Bool

@@ -9,15 +9,18 @@ use Rattle.jn_lsp_actions.specs.Offered.{AreActions}
 use Rattle.jn_lsp_text.specs.Choices.{chosen}
 use Rattle.jn_lsp_text.specs.declared.range.Range.{Range}
 use Rattle.jn_lsp_text.specs.declared.id.Id.{Id}
+use Rattle.jn_lsp_text.specs.declared.markup.Markup.{Markup}
+use Rattle.jn_lsp_text.specs.declared.markup.Markup.TheVariants.{Plain}
 use Rattle.jn_lsp_text.specs.declared.message.Message.{Message}
-use Rattle.jn_lsp_text.specs.declared.message.Message.TheVariants.{Initialize, Initialized, DidOpen, DidChange, DidSave, DidClose, WatchedFiles, CodeAction, InlayHint, Shutdown, Exit, Ignored, Unknown, BadDocument, BadParams, NoMessage, NoJson, BadHeader, TooLarge}
+use Rattle.jn_lsp_text.specs.declared.message.Message.TheVariants.{Initialize, Initialized, DidOpen, DidChange, DidSave, DidClose, WatchedFiles, CodeAction, InlayHint, Hover as HoverAsked, Shutdown, Exit, Ignored, Unknown, BadDocument, BadParams, NoMessage, NoJson, BadHeader, TooLarge}
 use Rattle.jn_lsp_text.specs.declared.reply.Action.{Action}
 use Rattle.jn_lsp_text.specs.declared.reply.Diagnostic.{Diagnostic}
 use Rattle.jn_lsp_text.specs.declared.reply.Failure.{Failure}
 use Rattle.jn_lsp_text.specs.declared.reply.Failure.TheVariants.{Parse, Request, Method, Params, NotInitialized}
 use Rattle.jn_lsp_text.specs.declared.reply.Hint.{Hint}
+use Rattle.jn_lsp_text.specs.declared.reply.Hover.{Hover}
 use Rattle.jn_lsp_text.specs.declared.reply.Reply.{Reply}
-use Rattle.jn_lsp_text.specs.declared.reply.Reply.TheVariants.{Capabilities, Done, Refusal, Actions, Hints}
+use Rattle.jn_lsp_text.specs.declared.reply.Reply.TheVariants.{Capabilities, Done, Refusal, Actions, Hints, Hovered}
 use Rattle.jn_notes.specs.declared.note.Notes.{Notes}
 use Rattle.jn_lsp.specs.declared.diagnostics.Told.{Told}
 use Rattle.jn_lsp.specs.declared.event.Event.{Event}
@@ -28,6 +31,7 @@ use Rattle.jn_lsp.specs.declared.phase.Phase.{Phase}
 use Rattle.jn_lsp.specs.declared.phase.Phase.TheVariants.{Waiting, Serving, ShutDown, Exited}
 use Rattle.jn_lsp.specs.Edits.{AreEdited}
 use Rattle.jn_lsp.specs.Hinting.{AreHintsIn}
+use Rattle.jn_lsp.specs.Hovering.{IsHoverIn}
 use Rattle.jn_lsp.specs.Names.{is_empty}
 use Rattle.jn_lsp.specs.Publications.{Announces, last_published}
 use Rattle.jn_lsp.specs.Stand.{stand}
@@ -45,7 +49,7 @@ unread NoMessage = Some Request
 unread TooLarge = Some Request
 unread NoJson = Some Parse
 unread BadHeader = Some Parse
-unread (Initialize id folder infer files exclude) = None
+unread (Initialize id folder infer files exclude markup) = None
 unread Initialized = None
 unread (DidOpen name version text) = None
 unread (DidChange name version changes) = None
@@ -54,6 +58,7 @@ unread (DidClose name) = None
 unread WatchedFiles = None
 unread (CodeAction id name range) = None
 unread (InlayHint id name range) = None
+unread (HoverAsked id name position) = None
 unread (Shutdown id) = None
 unread Exit = None
 unread Ignored = None
@@ -71,43 +76,46 @@ nameless (Some failure) = Some (Refusal None failure)
 
 -- before `initialize` no other request is served
 abbrev pub waiting_answer : Message → Option Reply
-waiting_answer (Initialize id folder infer files exclude) = Some (Capabilities id)
+waiting_answer (Initialize id folder infer files exclude markup) = Some (Capabilities id)
 waiting_answer (CodeAction id name range) = refusal NotInitialized (Some id)
 waiting_answer (InlayHint id name range) = refusal NotInitialized (Some id)
+waiting_answer (HoverAsked id name position) = refusal NotInitialized (Some id)
 waiting_answer (Shutdown id) = refusal NotInitialized (Some id)
 waiting_answer (Unknown id) = refusal NotInitialized (Some id)
 waiting_answer (BadParams id) = refusal Params id
 waiting_answer other = nameless (unread other)
 
--- a second `initialize` is refused, and these are the actions and the hints for a request of them
-abbrev pub serving_answer : List Action → List Hint → Message → Option Reply
-serving_answer actions hints (Initialize id folder infer files exclude) = refusal Request (Some id)
-serving_answer actions hints (CodeAction id name range) = Some (Actions id actions)
-serving_answer actions hints (InlayHint id name range) = Some (Hints id hints)
-serving_answer actions hints (Shutdown id) = Some (Done id)
-serving_answer actions hints (Unknown id) = refusal Method (Some id)
-serving_answer actions hints (BadParams id) = refusal Params id
-serving_answer actions hints other = nameless (unread other)
+-- a second `initialize` is refused, and these are the actions, the hints and what is shown at a position, for requests of them
+abbrev pub serving_answer : Markup → List Action → List Hint → Option Hover → Message → Option Reply
+serving_answer markup actions hints hover (Initialize id folder infer files exclude other) = refusal Request (Some id)
+serving_answer markup actions hints hover (CodeAction id name range) = Some (Actions id actions)
+serving_answer markup actions hints hover (InlayHint id name range) = Some (Hints id hints)
+serving_answer markup actions hints hover (HoverAsked id name position) = Some (Hovered id markup hover)
+serving_answer markup actions hints hover (Shutdown id) = Some (Done id)
+serving_answer markup actions hints hover (Unknown id) = refusal Method (Some id)
+serving_answer markup actions hints hover (BadParams id) = refusal Params id
+serving_answer markup actions hints hover other = nameless (unread other)
 
 -- after `shutdown` every request is refused
 abbrev pub late_answer : Message → Option Reply
-late_answer (Initialize id folder infer files exclude) = refusal Request (Some id)
+late_answer (Initialize id folder infer files exclude markup) = refusal Request (Some id)
 late_answer (CodeAction id name range) = refusal Request (Some id)
 late_answer (InlayHint id name range) = refusal Request (Some id)
+late_answer (HoverAsked id name position) = refusal Request (Some id)
 late_answer (Shutdown id) = refusal Request (Some id)
 late_answer (Unknown id) = refusal Request (Some id)
 late_answer (BadParams id) = refusal Request id
 late_answer other = nameless (unread other)
 
--- the answer to a request, where these actions are offered and these hints are shown; notifications have none, but for those that can't be read
-abbrev pub answer_of : List Action → List Hint → Phase → Message → Option Reply
-answer_of actions hints Waiting message = waiting_answer message
-answer_of actions hints Serving message = serving_answer actions hints message
-answer_of actions hints ShutDown message = late_answer message
-answer_of actions hints (Exited in_order) _ = None
+-- the answer to a request, where these actions are offered, and these hints and this is shown; notifications have none, but for those that can't be read
+abbrev pub answer_of : Markup → List Action → List Hint → Option Hover → Phase → Message → Option Reply
+answer_of markup actions hints hover Waiting message = waiting_answer message
+answer_of markup actions hints hover Serving message = serving_answer markup actions hints hover message
+answer_of markup actions hints hover ShutDown message = late_answer message
+answer_of markup actions hints hover (Exited in_order) _ = None
 
 abbrev pub phase_behind : Phase → Message → Phase
-phase_behind Waiting (Initialize id folder infer files exclude) = Serving
+phase_behind Waiting (Initialize id folder infer files exclude markup) = Serving
 phase_behind Waiting Exit = Exited false
 phase_behind Waiting _ = Waiting
 phase_behind Serving (Shutdown id) = ShutDown
@@ -131,29 +139,29 @@ abbrev pub next_phase : Phase → Event → Phase
 next_phase phase (MessageEvent message) = phase_behind phase message
 next_phase phase (Folder files) = phase
 
-abbrev pub workspace_of : Infer → List SourceFile → List SourceFile → List (List ℕ) → List Version → Workspace
-workspace_of infer disk documents unknown versions = record { infer = infer; disk = disk; documents = documents; unknown = unknown; versions = versions }
+abbrev pub workspace_of : Infer → Markup → List SourceFile → List SourceFile → List (List ℕ) → List Version → Workspace
+workspace_of infer markup disk documents unknown versions = record { infer = infer; markup = markup; disk = disk; documents = documents; unknown = unknown; versions = versions }
 
 -- a workspace after a message that makes of its documents these, or leaves them; none where it doesn't touch which texts are unknown either
 abbrev pub moved_by : Message → Workspace → Option (List SourceFile) → Option Workspace
-moved_by message before None = if touches message then Some (workspace_of before.infer before.disk before.documents (unknown_behind message before.documents before.unknown) (versions_behind message before.documents before.versions)) else None
-moved_by message before (Some documents) = Some (workspace_of before.infer before.disk documents (unknown_behind message before.documents before.unknown) (versions_behind message before.documents before.versions))
+moved_by message before None = if touches message then Some (workspace_of before.infer before.markup before.disk before.documents (unknown_behind message before.documents before.unknown) (versions_behind message before.documents before.versions)) else None
+moved_by message before (Some documents) = Some (workspace_of before.infer before.markup before.disk documents (unknown_behind message before.documents before.unknown) (versions_behind message before.documents before.versions))
 
 -- the folder's files, the open documents, and those of unknown texts, after an event; none where it changes none of them
 abbrev pub IsMoved : Event → Workspace → Option Workspace → Type 0
-IsMoved (Folder files) before after = after ≡ Some (workspace_of before.infer files before.documents before.unknown before.versions)
+IsMoved (Folder files) before after = after ≡ Some (workspace_of before.infer before.markup files before.documents before.unknown before.versions)
 IsMoved (MessageEvent message) before after = (documents : Option (List SourceFile)) × AreEdited before.unknown message before.documents documents × (after ≡ moved_by message before documents)
 
--- `initialize` says which members are inferred
+-- `initialize` says which members are inferred, and how the client shows what stands at a position
 abbrev pub chosen_by : Message → Workspace → Option Workspace
-chosen_by (Initialize id folder infer files exclude) before = Some (workspace_of (chosen infer before.infer) before.disk before.documents before.unknown before.versions)
+chosen_by (Initialize id folder infer files exclude markup) before = Some (workspace_of (chosen infer before.infer) markup before.disk before.documents before.unknown before.versions)
 chosen_by _ before = None
 
 abbrev pub started_by : Event → Workspace → Option Workspace
 started_by (MessageEvent message) before = chosen_by message before
 started_by (Folder files) before = None
 
--- files change only while the server serves, and before that the members that are inferred
+-- files change only while the server serves, and before that what `initialize` says
 abbrev pub IsMovedIn : Phase → Event → Workspace → Option Workspace → Type 0
 IsMovedIn Waiting event before after = after ≡ started_by event before
 IsMovedIn Serving event before after = IsMoved event before after
@@ -172,7 +180,7 @@ pub record ServerOf : Type 0 where
 
 -- a server that infers these members where `initialize` chooses none
 abbrev pub new_server : Infer → ServerOf
-new_server infer = record { phase = Waiting; workspace = workspace_of infer [] [] [] []; told = []; last = no_report }
+new_server infer = record { phase = Waiting; workspace = workspace_of infer Plain [] [] [] []; told = []; last = no_report }
 
 -- the files as they stand
 abbrev pub files_of : Workspace → List SourceFile
@@ -211,7 +219,8 @@ abbrev pub AreAnswers : Phase → List Told → Workspace → Event → List Rep
 AreAnswers phase told workspace (MessageEvent message) replies =
     (actions : List Action) × AreActionsIn phase told workspace message actions
     × (hints : List Hint) × AreHintsIn phase workspace.infer workspace.unknown (files_of workspace) message hints
-    × (replies ≡ option_to_list (answer_of actions hints phase message) ++ doubts_in phase message workspace.documents workspace.unknown)
+    × (hover : Option Hover) × IsHoverIn phase workspace.infer workspace.unknown (files_of workspace) message hover
+    × (replies ≡ option_to_list (answer_of workspace.markup actions hints hover phase message) ++ doubts_in phase message workspace.documents workspace.unknown)
 AreAnswers phase told workspace (Folder files) replies = replies ≡ []
 
 -- ---- what a server does

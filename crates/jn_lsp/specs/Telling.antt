@@ -1,48 +1,16 @@
 -- What is told of files: the rows of their report, each with its notes, at the files where they stand.
-use Rattle.std.specs.Prelude.{ℕ, ◌+◌, ◌-◌, ◌==◌, List, [], ◌∷◌, ◌++◌, codes, drop, length, map, nat_eq, nat_lt, bytes_eq, slice_index_or, take, Option, Some, None, if◌then◌else◌}
-use Rattle.std.specs.List.{ends_with}
-use Rattle.std.specs.Str.Lossy.{utf8_lossy}
+use Rattle.std.specs.Prelude.{ℕ, ◌+◌, ◌==◌, List, [], ◌∷◌, ◌++◌, drop, map, bytes_eq, Option, Some, None, if◌then◌else◌}
 use Rattle.jn_base.specs.declared.place.Row.{Row}
-use Rattle.jn_base.specs.declared.place.Span.{Span}
 use Rattle.jn_front.specs.declared.source.SourceFile.{SourceFile}
-use Rattle.jn_lsp_text.specs.declared.range.Range.{Range}
-use Rattle.jn_lsp_text.specs.Ranges.{range_at}
+use Rattle.jn_lsp_hover.specs.Related.{home, range_in, related_of}
 use Rattle.jn_lsp_text.specs.declared.reply.Diagnostic.{Diagnostic}
-use Rattle.jn_lsp_text.specs.declared.reply.Related.{Related}
 use Rattle.jn_lsp_text.specs.declared.reply.Said.TheVariants as said
 use Rattle.jn_notes.specs.declared.note.Note.{Note}
 use Rattle.jn_notes.specs.declared.note.Notes.{Notes}
 use Rattle.jn_recheck.specs.Files.{place_of}
 use Rattle.jn_lsp.specs.declared.diagnostics.Told.{Told}
 
--- ---- places
-
--- the number of the file where a span stands: of no file, the first
-abbrev pub home : List SourceFile → Span → ℕ
-home files span = if nat_lt span.file.0 (length files) then span.file.0 else 0
-
-abbrev pub no_file : SourceFile
-no_file = record { name = []; bytes = [] }
-
-abbrev pub home_of : List SourceFile → Span → SourceFile
-home_of files span = slice_index_or files (home files span) no_file
-
-abbrev pub range_in : List SourceFile → Span → Range
-range_in files span = range_at (home_of files span).bytes span.from span.to
-
 -- ---- diagnostics
-
--- a text without this ending, where it has it
-abbrev pub without_ending : List ℕ → List ℕ → List ℕ
-without_ending ending text = if ends_with nat_eq text ending then take (length text - length ending) text else text
-
--- a note's words without what leads to the place that a report has after them
-abbrev pub without_lead : List ℕ → List ℕ
-without_lead words = without_ending (codes ":") (without_ending (codes " at") words)
-
--- a note at its file and its range; what is no UTF-8 in its words is replaced
-abbrev pub related_of : List SourceFile → Note → Related
-related_of files note = record { name = (home_of files note.span).name; range = range_in files note.span; words = utf8_lossy (without_lead note.words) }
 
 -- a row at its range, with these notes
 abbrev pub diagnostic_of : List SourceFile → Row → List Note → Diagnostic

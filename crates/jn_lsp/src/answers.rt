@@ -6,11 +6,12 @@ use crate::diagnostics::Told;
 use crate::documents::Workspace;
 use crate::event::Event;
 use crate::hinting::hinted;
+use crate::hovering::hovered;
 use crate::offering::offered;
 use crate::phase::Phase;
 use crate::unknown::warn;
 use jn_base::{OutOfMemory, Seq};
-use jn_lsp_text::{Action, Failure, Hint, Id, Message, Reply};
+use jn_lsp_text::{Action, Failure, Hint, Hover, Id, Markup, Message, Reply};
 use jn_sharing::Gate;
 use std::alloc::Global;
 use std::thread::Threads;
@@ -57,6 +58,7 @@ fn waiting_answer(alloc: Global, message: &Message) -> Result<Option<Reply>, Out
         })),
         Message::CodeAction { id, .. } => refused(alloc, Failure::NotInitialized, id),
         Message::InlayHint { id, .. } => refused(alloc, Failure::NotInitialized, id),
+        Message::Hover { id, .. } => refused(alloc, Failure::NotInitialized, id),
         Message::Shutdown { id } => refused(alloc, Failure::NotInitialized, id),
         Message::Unknown { id } => refused(alloc, Failure::NotInitialized, id),
         Message::BadParams { id } => refusal(alloc, Failure::Params, id),
@@ -67,10 +69,13 @@ fn waiting_answer(alloc: Global, message: &Message) -> Result<Option<Reply>, Out
 fn serving_answer(
     alloc: Global,
     message: &Message,
+    markup: Markup,
     actions: Seq<Action>,
     hints: Seq<Hint>,
+    hover: Option<Hover>,
 ) -> Result<Option<Reply>, OutOfMemory>
-    ensures { IfOk result (λ answer. answer ≡ spec.serving_answer actions hints message.now) }
+    ensures { IfOk result (λ answer. answer
+        ≡ spec.serving_answer markup actions hints hover message.now) }
 {
     match message {
         Message::Initialize { id, .. } => refused(alloc, Failure::Request, id),
@@ -81,6 +86,11 @@ fn serving_answer(
         Message::InlayHint { id, .. } => Ok(Some(Reply::Hints {
             id: id.copy(alloc)?,
             hints,
+        })),
+        Message::Hover { id, .. } => Ok(Some(Reply::Hovered {
+            id: id.copy(alloc)?,
+            markup,
+            hover,
         })),
         Message::Shutdown { id } => Ok(Some(Reply::Done {
             id: id.copy(alloc)?,
@@ -98,6 +108,7 @@ fn late_answer(alloc: Global, message: &Message) -> Result<Option<Reply>, OutOfM
         Message::Initialize { id, .. } => refused(alloc, Failure::Request, id),
         Message::CodeAction { id, .. } => refused(alloc, Failure::Request, id),
         Message::InlayHint { id, .. } => refused(alloc, Failure::Request, id),
+        Message::Hover { id, .. } => refused(alloc, Failure::Request, id),
         Message::Shutdown { id } => refused(alloc, Failure::Request, id),
         Message::Unknown { id } => refused(alloc, Failure::Request, id),
         Message::BadParams { id } => refusal(alloc, Failure::Request, id),
@@ -105,19 +116,22 @@ fn late_answer(alloc: Global, message: &Message) -> Result<Option<Reply>, OutOfM
     }
 }
 
-/// The answer to a message, where it has one, these actions are offered and these hints are shown.
+/// The answer to a message, where it has one, these actions are offered, and these hints and this is shown.
 fn answer_of(
     alloc: Global,
     phase: Phase,
     message: &Message,
+    markup: Markup,
     actions: Seq<Action>,
     hints: Seq<Hint>,
+    hover: Option<Hover>,
 ) -> Result<Option<Reply>, OutOfMemory>
-    ensures { IfOk result (λ answer. answer ≡ spec.answer_of actions hints phase message.now) }
+    ensures { IfOk result (λ answer. answer
+        ≡ spec.answer_of markup actions hints hover phase message.now) }
 {
     match phase {
         Phase::Waiting => waiting_answer(alloc, message),
-        Phase::Serving => serving_answer(alloc, message, actions, hints),
+        Phase::Serving => serving_answer(alloc, message, markup, actions, hints, hover),
         Phase::ShutDown => late_answer(alloc, message),
         Phase::Exited { .. } => Ok(None),
     }
@@ -149,7 +163,9 @@ pub(crate) fn answers<R: Threads + Sync, G: Gate + Sync>(
         Event::Message(message) => {
             let actions = offered(rt, gate, alloc, phase, told, workspace, message)?;
             let hints = hinted(rt, gate, alloc, phase, workspace, message)?;
-            let answer = answer_of(alloc, phase, message, actions, hints)?;
+            let hover = hovered(rt, gate, alloc, phase, workspace, message)?;
+            let markup = workspace.markup;
+            let answer = answer_of(alloc, phase, message, markup, actions, hints, hover)?;
             let mut replies = listed(alloc, answer)?;
             warn(
                 alloc,

@@ -1,11 +1,12 @@
 //! From a report's rows to what is told of files.
-ghost use Rattle.std.specs.Prelude.{◌≡◌, ◌<◌, IfOk, OnOk, map, length, ◌++◌, ◌∷◌, []};
+ghost use Rattle.std.specs.Prelude.{◌≡◌, ◌++◌, ◌∷◌, [], IfOk, OnOk};
 ghost use Rattle.jn_lsp.specs.Telling as spec;
 ghost use Rattle.jn_recheck.specs.Files.{AllFit};
 
-use jn_base::{OutOfMemory, Row, Seq, Span, Text};
+use jn_base::{OutOfMemory, Row, Seq, Text};
 use jn_front::SourceFile;
-use jn_lsp_text::{Diagnostic, Range, Related, Said, range_of};
+use jn_lsp_hover::related::{all_related, home, range_in};
+use jn_lsp_text::{Diagnostic, Said};
 use jn_notes::{Note, Notes};
 use std::alloc::{AllocError, Global};
 
@@ -14,86 +15,6 @@ use std::alloc::{AllocError, Global};
 pub struct Told {
     pub name: Text,
     pub diagnostics: Seq<Diagnostic>,
-}
-
-// ---- places
-
-/// The number of the file where the span stands: of no file, the first.
-pub(crate) fn home(files: &[SourceFile], span: &Span) -> usize
-    ensures { result ≡ spec.home files.now span.now }
-{
-    let file = span.file.0 as usize;
-    if file < files.len() { file } else { 0 }
-}
-
-pub(crate) fn name_of<'a>(files: &'a [SourceFile], span: &Span) -> &'a str
-    ensures { result.now ≡ (spec.home_of files.now span.now).name }
-{
-    match files.get(home(files, span)) {
-        None => "",
-        Some(file) => file.name.as_str(),
-    }
-}
-
-pub(crate) fn range_in(files: &[SourceFile], span: &Span) -> Range
-    requires fit { AllFit files.now }
-    ensures { result ≡ spec.range_in files.now span.now }
-{
-    match files.get(home(files, span)) {
-        None => range_of(&[], span.from, span.to),
-        Some(file) => range_of(file.bytes.as_slice(), span.from, span.to),
-    }
-}
-
-// ---- words
-
-/// The text without this ending, where it has it.
-fn without_ending<'a>(text: &'a [u8], ending: &[u8]) -> &'a [u8]
-    ensures { result.now ≡ spec.without_ending ending.now text.now }
-{
-    if text.ends_with(ending) {
-        &text[..text.len() - ending.len()]
-    } else {
-        text
-    }
-}
-
-/// A note's words, which lead to the place that a report has after them, without that end.
-fn without_lead(words: &[u8]) -> &[u8]
-    ensures { result.now ≡ spec.without_lead words.now }
-{
-    without_ending(without_ending(words, b" at"), b":")
-}
-
-// ---- diagnostics
-
-fn related_of(alloc: Global, files: &[SourceFile], note: &Note) -> Result<Related, AllocError>
-    requires fit { AllFit files.now }
-    ensures { IfOk result (λ related. related ≡ spec.related_of files.now note.now) }
-{
-    Ok(Related {
-        name: Text::of_str(alloc, name_of(files, &note.span))?,
-        range: range_in(files, &note.span),
-        words: Text::of_string(String::from_utf8_lossy(
-            alloc,
-            without_lead(note.words.as_slice()),
-        )?),
-    })
-}
-
-fn all_related(
-    alloc: Global,
-    files: &[SourceFile],
-    notes: &[Note],
-) -> Result<Seq<Related>, AllocError>
-    requires fit { AllFit files.now }
-    ensures { IfOk result (λ related. related ≡ map (spec.related_of files.now) notes.now) }
-{
-    let mut related = Seq::new(alloc);
-    for note in notes {
-        related.push(related_of(alloc, files, note)?)?;
-    }
-    Ok(related)
 }
 
 /// The notes of the row of this number; none where the list is shorter.

@@ -12,13 +12,14 @@ use crate::unknown::{copy_names, is_among, touches, unknown_behind};
 use crate::versions::{Version, copy_versions, versions_behind};
 use jn_base::{Infer, OutOfMemory, Seq, Text};
 use jn_front::SourceFile;
-use jn_lsp_text::{Change, Message, chosen, replace};
+use jn_lsp_text::{Change, Markup, Message, chosen, replace};
 use std::alloc::{AllocError, Global};
 
-/// Which members are inferred, the folder's files as they were last read, and the documents that the client has open, in the order in which they were opened.
+/// Which members are inferred, how the client shows what stands at a position, the folder's files as they were last read, and the documents that the client has open, in the order in which they were opened.
 #[derive(Drop)]
 pub struct Workspace {
     pub infer: Infer,
+    pub markup: Markup,
     pub disk: Seq<SourceFile>,
     pub documents: Seq<SourceFile>,
     /// The names of documents whose texts aren't known, since what the client sent of them can't be read.
@@ -223,6 +224,7 @@ impl Workspace {
     {
         Workspace {
             infer,
+            markup: Markup::Plain,
             disk: Seq::new(alloc),
             documents: Seq::new(alloc),
             unknown: Seq::new(alloc),
@@ -232,10 +234,11 @@ impl Workspace {
 
     fn with_disk(&self, alloc: Global, disk: &[SourceFile]) -> Result<Workspace, OutOfMemory>
         ensures { IfOk result (λ made. made
-            ≡ serving.workspace_of self.now.infer disk.now self.now.documents self.now.unknown self.now.versions) }
+            ≡ serving.workspace_of self.now.infer self.now.markup disk.now self.now.documents self.now.unknown self.now.versions) }
     {
         Ok(Workspace {
             infer: self.infer,
+            markup: self.markup,
             disk: Seq::of_vec(copy_documents(alloc, disk)?),
             documents: Seq::of_vec(copy_documents(alloc, self.documents.as_slice())?),
             unknown: copy_names(alloc, self.unknown.as_slice())?,
@@ -250,7 +253,7 @@ impl Workspace {
         message: &Message,
         documents: Seq<SourceFile>,
     ) -> Result<Workspace, OutOfMemory>
-        ensures { IfOk result (λ made. made ≡ serving.workspace_of self.now.infer self.now.disk documents
+        ensures { IfOk result (λ made. made ≡ serving.workspace_of self.now.infer self.now.markup self.now.disk documents
             (unknown_behind message.now self.now.documents self.now.unknown)
             (versions_behind message.now self.now.documents self.now.versions)) }
     {
@@ -268,6 +271,7 @@ impl Workspace {
         )?;
         Ok(Workspace {
             infer: self.infer,
+            markup: self.markup,
             disk: Seq::of_vec(copy_documents(alloc, self.disk.as_slice())?),
             documents,
             unknown,
@@ -318,13 +322,19 @@ impl Workspace {
         }
     }
 
-    /// The workspace where these members are inferred.
-    fn with_infer(&self, alloc: Global, infer: Infer) -> Result<Workspace, OutOfMemory>
-        ensures { IfOk result (λ made. made ≡ serving.workspace_of infer self.now.disk
+    /// The workspace where these members are inferred, of a client that shows so what stands at a position.
+    fn with_settings(
+        &self,
+        alloc: Global,
+        infer: Infer,
+        markup: Markup,
+    ) -> Result<Workspace, OutOfMemory>
+        ensures { IfOk result (λ made. made ≡ serving.workspace_of infer markup self.now.disk
             self.now.documents self.now.unknown self.now.versions) }
     {
         Ok(Workspace {
             infer,
+            markup,
             disk: Seq::of_vec(copy_documents(alloc, self.disk.as_slice())?),
             documents: Seq::of_vec(copy_documents(alloc, self.documents.as_slice())?),
             unknown: copy_names(alloc, self.unknown.as_slice())?,
@@ -337,8 +347,9 @@ impl Workspace {
         ensures { IfOk result (λ moved. moved ≡ serving.chosen_by message.now self.now) }
     {
         match message {
-            Message::Initialize { infer, .. } => {
-                Ok(Some(self.with_infer(alloc, chosen(*infer, self.infer))?))
+            Message::Initialize { infer, markup, .. } => {
+                let infer = chosen(*infer, self.infer);
+                Ok(Some(self.with_settings(alloc, infer, *markup)?))
             }
             _ => Ok(None),
         }

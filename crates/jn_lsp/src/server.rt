@@ -140,7 +140,7 @@ impl Server {
 
     /// Takes an event, and gives the replies to it in order. Where the event changes the files that stand, their report is made anew, and
     /// each name of which something else is told than before gets a publication, and a document that is opened in any case. For a request of actions the files are checked anew where
-    /// something is told at its range, and for a request of hints their program is inferred anew. Workers enter the gate where they take a file or a body.
+    /// something is told at its range, and for a request of hints, or of what stands at a position, their program is inferred anew. Workers enter the gate where they take a file or a body.
     ///
     /// # Errors
     /// No memory was found, and the server is as before.

@@ -2,16 +2,18 @@
 ghost use Rattle.std.specs.Prelude.{◌≡◌, ◌<◌, ◌^◌, ◌++◌, ◌∷◌, [], IfOk, OnOk, length};
 ghost use Rattle.jn_base.specs.Place as places;
 ghost use Rattle.jn_lsp.specs.Reported as spec;
-ghost use Rattle.jn_lsp.specs.Telling.{home_of, told_from};
+ghost use Rattle.jn_lsp.specs.Telling.{told_from};
+ghost use Rattle.jn_lsp_hover.specs.Related.{home_of};
 ghost use Rattle.jn_recheck.specs.Files.{AllFit, is_as_before};
 
-use crate::diagnostics::{Told, diagnostics_at, home, name_of, push, range_in, told_of};
+use crate::diagnostics::{Told, diagnostics_at, push, told_of};
 use crate::documents::place_of;
 use crate::front::front;
 use crate::publishing::told_of as told_before;
 use itoa::{Buffer, Integer};
 use jn_base::{Code, OutOfMemory, Place, Row, Seq, Span, Text, place_of as place_of_span};
 use jn_front::SourceFile;
+use jn_lsp_hover::related::{home, name_of, range_in};
 use jn_lsp_text::{Diagnostic, Related, Said, copy_diagnostics};
 use std::alloc::{AllocError, Global};
 

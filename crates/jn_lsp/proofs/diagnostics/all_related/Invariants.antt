@@ -1,6 +1,0 @@
-use Rattle.std.proofs.Common.{◌≡◌, map, take}
-use Rattle.jn_lsp.specs.Telling.{related_of}
-use Rattle.jn_lsp.proofs.diagnostics.all_related.Given as goal
-
-abbrev pub invariant-loop-note : goal.invariant-loop-note
-invariant-loop-note l = l.related ≡ map (related_of l.files) (take l.note-index l.notes)
