@@ -1,7 +1,6 @@
 -- What is found place by place is the narrowest.
-use Rattle.std.proofs.Common.{◌≡◌, ◌⊎◌, inl, inr, ℕ, zero, suc, ◌+◌, ◌≤◌, ◌<◌, Bool, true, false, cond, List, [], ◌∷◌, ◌++◌, length, take, get_or, map, Option, Some, None, append-nil, append_assoc, refl, sym, ap, ◌∙◌, subst, arith}
+use Rattle.std.proofs.Common.{◌≡◌, ℕ, zero, suc, ◌+◌, ◌≤◌, ◌<◌, Bool, true, false, cond, List, [], ◌∷◌, ◌++◌, length, take, get_or, map, Option, Some, None, append-nil, append_assoc, add-one, refl, sym, ap, ◌∙◌, subst, arith}
 use Rattle.std.specs.Prelude.{All, filter, nat_lt, slice_get}
-use Rattle.std.proofs.lemmas.Bool.{cases_Bool, cond-true, cond-false}
 use Rattle.std.proofs.lemmas.Bool.Decides.{nat_tests}
 use Rattle.std.proofs.lemmas.List.{map-append, map_more}
 use Rattle.std.proofs.lemmas.List.Elements.{All-append, All-cons, All-nil, All-push, All-same}
@@ -36,7 +35,7 @@ module _ (sought : Sought) where
 -- ---- one point more, and one body more
 
 spots_more : (b p : ℕ) (pts : List Point) (i : ℕ) (pt : Point) → i < length pts → pt ≡ get_or pts i pt
-    → spots_of_points b p (take (i + 1) pts) ≡ spots_of_points b p (take i pts) ++ spots_of_point b (p + i) pt
+    → spots_of_points b p (take (suc i) pts) ≡ spots_of_points b p (take i pts) ++ spots_of_point b (p + i) pt
 spots_more b p [] i pt lt is = absurd (omega (arith, lt))
 spots_more b p (x ∷ pts) zero pt lt is =
     append-nil (spots_of_point b p x) ∙ ap (spots_of_point b p) (sym is) ∙ ap (λ n. spots_of_point b n pt) none
@@ -52,7 +51,7 @@ spots_more b p (x ∷ pts) (suc i) pt lt is =
     on = omega arith
 
 bodies_more : (b : ℕ) (bodies : List Body) (i : ℕ) → i < length bodies
-    → spots_of_bodies b (take (i + 1) bodies) ≡ spots_of_bodies b (take i bodies) ++ spots_of_points (b + i) 0 (points_of (slice_get bodies i))
+    → spots_of_bodies b (take (suc i) bodies) ≡ spots_of_bodies b (take i bodies) ++ spots_of_points (b + i) 0 (points_of (slice_get bodies i))
 bodies_more b [] i lt = absurd (omega (arith, lt))
 bodies_more b (x ∷ bodies) zero lt = append-nil (spots_of_points b 0 x.points) ∙ ap (λ n. spots_of_points n 0 x.points) none
   where
@@ -72,13 +71,13 @@ module _ (sought : Sought) where
       → new ≡ searched sought old (spots_of_point b i pt) → old ≡ searched sought best (spots_of_points b 0 (take i pts)) → new ≡ searched sought best (spots_of_points b 0 (take (i + 1) pts))
   point_more b best old new pts i pt lt is after before =
       searched_both sought best old new (spots_of_points b 0 (take i pts)) (spots_of_point b i pt) before after
-      ∙ ap (searched sought best) (sym (spots_more b 0 pts i pt lt is))
+      ∙ ap (searched sought best) (sym (spots_more b 0 pts i pt lt is) ∙ ap (λ n. spots_of_points b 0 (take n pts)) (sym (add-one i)))
 
   pub body_more : (P : Program) (old new : Option Spot) (i : ℕ) → i < length P.bodies
       → new ≡ searched sought old (spots_of_points i 0 (points_of (body_at P i))) → old ≡ searched sought None (spots_of_bodies 0 (take i P.bodies)) → new ≡ searched sought None (spots_of_bodies 0 (take (i + 1) P.bodies))
   body_more P old new i lt after before =
       searched_both sought None old new (spots_of_bodies 0 (take i P.bodies)) (spots_of_points i 0 (points_of (body_at P i))) before after
-      ∙ ap (searched sought None) (sym (bodies_more 0 P.bodies i lt))
+      ∙ ap (searched sought None) (sym (bodies_more 0 P.bodies i lt) ∙ ap (λ n. spots_of_bodies 0 (take n P.bodies)) (sym (add-one i)))
 
 -- ---- the narrowest
 
@@ -123,24 +122,19 @@ better_is done None x none = record {
 better_is done (Some y) x is = narrower_is done y x is (nat_lt (width x) (width y)) refl
 
 module _ (sought : Sought) where
-  search_is : (done : List Spot) (best : Option Spot) (spots : List Spot) → IsNarrowestOf done best → IsNarrowestOf (done ++ filter (passes sought) spots) (searched sought best spots)
-  search_is done best [] is = subst (λ all. IsNarrowestOf all best) (sym (append-nil done)) is
-  search_is done best (x ∷ spots) is = by (cases_Bool (passes sought x))
-    where
-      rest = filter (passes sought) spots
+  -- one place more, which passes or not
+  by_test : (done : List Spot) (best : Option Spot) (x : Spot) (spots : List Spot) (b : Bool)
+      → IsNarrowestOf ((done ++ x ∷ []) ++ filter (passes sought) spots) (searched sought (Some (narrower best x)) spots)
+      → IsNarrowestOf (done ++ filter (passes sought) spots) (searched sought best spots)
+      → IsNarrowestOf (done ++ cond b (x ∷ filter (passes sought) spots) (filter (passes sought) spots)) (searched sought (cond b (Some (narrower best x)) best) spots)
+  by_test done best x spots true is other =
+      subst (λ (all : List Spot). IsNarrowestOf all (searched sought (Some (narrower best x)) spots)) (append_assoc done (x ∷ []) (filter (passes sought) spots)) is
+  by_test done best x spots false other is = is
 
-      by : (passes sought x ≡ true) ⊎ (passes sought x ≡ false) → IsNarrowestOf (done ++ filter (passes sought) (x ∷ spots)) (searched sought best (x ∷ spots))
-      by (inl yes_it) =
-          let longer : (done ++ x ∷ []) ++ rest ≡ done ++ filter (passes sought) (x ∷ spots) = append_assoc done (x ∷ []) rest ∙ ap (λ all. done ++ all) (sym (cond-true _ _ _ yes_it)) in
-          let found : searched sought (Some (narrower best x)) spots ≡ searched sought best (x ∷ spots) = ap (λ b. searched sought b spots) (sym (cond-true _ _ _ yes_it)) in
-          subst (λ b. IsNarrowestOf (done ++ filter (passes sought) (x ∷ spots)) b) found
-          (subst (λ all. IsNarrowestOf all (searched sought (Some (narrower best x)) spots)) longer
-          (search_is (done ++ x ∷ []) (Some (narrower best x)) spots (better_is done best x is)))
-      by (inr none) =
-          let as_long : done ++ rest ≡ done ++ filter (passes sought) (x ∷ spots) = ap (λ all. done ++ all) (sym (cond-false _ _ _ none)) in
-          let found : searched sought best spots ≡ searched sought best (x ∷ spots) = ap (λ b. searched sought b spots) (sym (cond-false _ _ _ none)) in
-          subst (λ b. IsNarrowestOf (done ++ filter (passes sought) (x ∷ spots)) b) found
-          (subst (λ all. IsNarrowestOf all (searched sought best spots)) as_long (search_is done best spots is))
+  search_is : (done : List Spot) (best : Option Spot) (spots : List Spot) → IsNarrowestOf done best → IsNarrowestOf (done ++ filter (passes sought) spots) (searched sought best spots)
+  search_is done best [] is = subst (λ (all : List Spot). IsNarrowestOf all best) (sym (append-nil done)) is
+  search_is done best (x ∷ spots) is =
+      by_test done best x spots (passes sought x) (search_is (done ++ x ∷ []) (Some (narrower best x)) spots (better_is done best x is)) (search_is done best spots is)
 
   pub found_is : (spots : List Spot) (found : Option Spot) → found ≡ searched sought None spots → IsNarrowestOf (filter (passes sought) spots) found
-  found_is spots found e = subst (λ b. IsNarrowestOf (filter (passes sought) spots) b) (sym e) (search_is [] None spots refl)
+  found_is spots found e = subst (λ (b : Option Spot). IsNarrowestOf (filter (passes sought) spots) b) (sym e) (search_is [] None spots refl)

@@ -262,12 +262,13 @@ fn of_solved(
     ensures { IfOk result (λ hover.
         spec.IsHover asked.now.infer files.now asked.now.name.now asked.now.position hover) }
 {
-    let tables = least_tables(alloc, base.program(), sig)?;
+    let program = base.program();
+    let tables = least_tables(alloc, program, sig)?;
     let heads = heads(alloc, trees)?;
     let solved = Solved {
         files,
         names,
-        program: base.program(),
+        program,
         sig,
         tables: &tables,
     };
