@@ -62,12 +62,10 @@ module _ (file offset : ℕ) where
   one_none one rest whole true e h = absurd (cc)
   one_none one rest whole false e h = h
 
-module _ (params : List ParamHead) (slots : List (Option SlotNo)) (i : ℕ) (p : ParamHead) (slot : Option SlotNo) (within : i < length params) (inside : i < length slots)
-    (p_is : p ≡ get_or params i p) (slot_is : slot ≡ get_or slots i slot) where
+module _ (params : List ParamHead) (slots : List (Option SlotNo)) (i : ℕ) (p : ParamHead) (slot : Option SlotNo)
+    (next : drop i params ≡ p ∷ drop (i + 1) params) (beside : drop i slots ≡ slot ∷ drop (i + 1) slots) where
   params_step : declared_params (drop i params) (drop i slots) ≡ declared_param p slot ∷ declared_params (drop (i + 1) params) (drop (i + 1) slots)
-  params_step =
-      ap (λ (ps : List ParamHead). declared_params ps (drop i slots)) (drop_more params i p within ∙ ap (λ (x : ParamHead). x ∷ drop (i + 1) params) (sym p_is))
-      ∙ ap (λ (os : List (Option SlotNo)). declared_params (p ∷ drop (i + 1) params) os) (drop_more slots i slot inside ∙ ap (λ (x : Option SlotNo). x ∷ drop (i + 1) slots) (sym slot_is))
+  params_step = ap (λ (ps : List ParamHead). declared_params ps (drop i slots)) next ∙ ap (λ (os : List (Option SlotNo)). declared_params (p ∷ drop (i + 1) params) os) beside
 
   module _ (file offset : ℕ) (one : Declared) (whole : Option Declared) (is : one ≡ declared_param p slot) (so : declared_at file offset (declared_params (drop i params) (drop i slots)) ≡ whole) where
     at_step : declared_at file offset (one ∷ declared_params (drop (i + 1) params) (drop (i + 1) slots)) ≡ whole

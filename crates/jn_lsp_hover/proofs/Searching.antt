@@ -34,6 +34,9 @@ module _ (sought : Sought) where
 
 -- ---- one point more, and one body more
 
+from_zero : (n : ℕ) → n ≡ 0 + n
+from_zero n = omega arith
+
 spots_more : (b p : ℕ) (pts : List Point) (i : ℕ) (pt : Point) → i < length pts → pt ≡ get_or pts i pt
     → spots_of_points b p (take (suc i) pts) ≡ spots_of_points b p (take i pts) ++ spots_of_point b (p + i) pt
 spots_more b p [] i pt lt is = absurd (omega (arith, lt))
@@ -71,13 +74,13 @@ module _ (sought : Sought) where
       → new ≡ searched sought old (spots_of_point b i pt) → old ≡ searched sought best (spots_of_points b 0 (take i pts)) → new ≡ searched sought best (spots_of_points b 0 (take (i + 1) pts))
   point_more b best old new pts i pt lt is after before =
       searched_both sought best old new (spots_of_points b 0 (take i pts)) (spots_of_point b i pt) before after
-      ∙ ap (searched sought best) (sym (spots_more b 0 pts i pt lt is) ∙ ap (λ n. spots_of_points b 0 (take n pts)) (sym (add-one i)))
+      ∙ ap (searched sought best) (ap (λ n. spots_of_points b 0 (take i pts) ++ spots_of_point b n pt) (from_zero i) ∙ sym (spots_more b 0 pts i pt lt is) ∙ ap (λ n. spots_of_points b 0 (take n pts)) (sym (add-one i)))
 
   pub body_more : (P : Program) (old new : Option Spot) (i : ℕ) → i < length P.bodies
       → new ≡ searched sought old (spots_of_points i 0 (points_of (body_at P i))) → old ≡ searched sought None (spots_of_bodies 0 (take i P.bodies)) → new ≡ searched sought None (spots_of_bodies 0 (take (i + 1) P.bodies))
   body_more P old new i lt after before =
       searched_both sought None old new (spots_of_bodies 0 (take i P.bodies)) (spots_of_points i 0 (points_of (body_at P i))) before after
-      ∙ ap (searched sought None) (sym (bodies_more 0 P.bodies i lt) ∙ ap (λ n. spots_of_bodies 0 (take n P.bodies)) (sym (add-one i)))
+      ∙ ap (searched sought None) (ap (λ n. spots_of_bodies 0 (take i P.bodies) ++ spots_of_points n 0 (points_of (body_at P i))) (from_zero i) ∙ sym (bodies_more 0 P.bodies i lt) ∙ ap (λ n. spots_of_bodies 0 (take n P.bodies)) (sym (add-one i)))
 
 -- ---- the narrowest
 

@@ -124,7 +124,6 @@ fn over_maybe(
 }
 
 /// Over these operands.
-#[tactic(auto, using(crate::proofs::Searching::operand_more))]
 fn over_each(
     sought: &Sought,
     best: Option<Spot>,
@@ -303,7 +302,6 @@ fn over_point(sought: &Sought, best: Option<Spot>, place: Place, point: &Point) 
     over_result(sought, best, place, point)
 }
 
-#[tactic(auto, using(crate::proofs::Searching::point_more))]
 fn over_points(sought: &Sought, best: Option<Spot>, body: u32, points: &[Point]) -> Option<Spot>
     requires short { length points.now < 2 ^ 32 }
     ensures { result
@@ -331,7 +329,6 @@ fn over_body(sought: &Sought, best: Option<Spot>, body: u32) -> Option<Spot>
     over_points(sought, best, body, info.points.as_slice())
 }
 
-#[tactic(auto, using(crate::proofs::Searching::body_more))]
 fn over_bodies(sought: &Sought) -> Option<Spot>
     requires inferable { IsInferable sought.now.program.now }
     ensures { result
@@ -346,7 +343,6 @@ fn over_bodies(sought: &Sought) -> Option<Spot>
 
 /// The narrowest text at the byte that a point reads or makes: the first by body, point and operand of those that are as narrow. None where no such
 /// text has the byte.
-#[tactic(auto, using(crate::proofs::Searching::found_is))]
 pub fn narrowest(sought: &Sought) -> Option<Spot>
     requires inferable { IsInferable sought.now.program.now }
     ensures { spec.IsNarrowestOf

@@ -20,5 +20,5 @@ loop-at-preserved c =
 pub returns : goal.returns
 returns c =
     let past : (length c.args.heads.now ≤ c.loop-at.at) ⊎ (length c.args.methods.now ≤ c.loop-at.at) =
-        elim c.least-at-end.ensures.one [ inl l ↦ inl (omega (arith, l, c.loop-at-test.false)) | inr r ↦ inr (omega (arith, r, c.loop-at-test.false)) ] in
+    elim c.least-at-end.ensures.one [ inl l ↦ inl (omega (arith, l, c.loop-at-test.false)) | inr r ↦ inr (omega (arith, r, c.loop-at-test.false)) ] in
     methods_end c.args.file c.args.offset c.args.heads.now c.args.methods.now c.loop-at.at (declared_at c.args.file c.args.offset (declared_methods c.args.heads.now c.args.methods.now)) past c.loop-at.invariant
