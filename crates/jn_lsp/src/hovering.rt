@@ -1,5 +1,5 @@
 //! What is shown at a position of a file.
-ghost use Rattle.std.specs.Prelude.{◌≡◌, IfOk};
+ghost use Rattle.std.specs.Prelude.{IfOk};
 ghost use Rattle.jn_lsp.specs.Hovering as spec;
 ghost use Rattle.jn_lsp.specs.Names.{is_empty as no_names};
 ghost use Rattle.jn_lsp.specs.Serving.{files_of};

@@ -1,6 +1,6 @@
 -- What is shown at a position of a file (Language Server Protocol 3.17, "Hover Request"): what the value may be whose text is the narrowest there, or else
 -- what a declared name's slot has, and why.
-use Rattle.std.specs.Prelude.{ℕ, ◌≡◌, ◌⊎◌, Bool, cond, List, [], ◌++◌, filter, map, Option, Some, None, option_map, slice_index_or}
+use Rattle.std.specs.Prelude.{ℕ, ◌≡◌, ◌⊎◌, cond, List, [], ◌++◌, filter, map, Option, Some, None, option_map, slice_index_or}
 use Rattle.jn_base.specs.declared.infer.Infer.{Infer}
 use Rattle.jn_base.specs.declared.place.Row.{Row}
 use Rattle.jn_base.specs.declared.number.SlotNo.{SlotNo}

@@ -1,5 +1,5 @@
 -- What may be of a value, in words.
-use Rattle.std.specs.Prelude.{ℕ, ◌++◌, Bool, true, false, List, Option, codes, slice_get}
+use Rattle.std.specs.Prelude.{ℕ, ◌++◌, Bool, true, false, List, codes, slice_get}
 use Rattle.std.specs.Str.Lossy.{utf8_lossy}
 use Rattle.jn_notes.specs.Owned.{owner_of}
 use Rattle.jn_notes.specs.Worded.{owner_words}

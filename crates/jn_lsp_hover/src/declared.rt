@@ -1,5 +1,5 @@
 //! Names that are declared.
-ghost use Rattle.std.specs.Prelude.{◌≡◌, ◌++◌, drop, map};
+ghost use Rattle.std.specs.Prelude.{◌≡◌, drop, map};
 ghost use Rattle.jn_lsp_hover.specs.Declarations as spec;
 
 use crate::sought::has_byte;

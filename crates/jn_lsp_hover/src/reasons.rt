@@ -1,5 +1,5 @@
 //! Why a slot has its bits.
-ghost use Rattle.std.specs.Prelude.{◌≡◌, ◌++◌, IfOk, OnOk, slice_index_or};
+ghost use Rattle.std.specs.Prelude.{◌≡◌, ◌++◌, IfOk, slice_index_or};
 ghost use Rattle.jn_inference_law.specs.Solution.{IsLeastSignature};
 ghost use Rattle.jn_notes.specs.Noted.{AreFrom, AreLeastTables};
 ghost use Rattle.jn_notes.specs.Owned.{AreOwners};

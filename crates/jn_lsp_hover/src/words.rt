@@ -1,5 +1,5 @@
 //! What may be of a value, in words.
-ghost use Rattle.std.specs.Prelude.{◌≡◌, ◌++◌, IfOk, slice_get};
+ghost use Rattle.std.specs.Prelude.{◌≡◌, IfOk, slice_get};
 ghost use Rattle.jn_notes.specs.Owned.{AreOwners};
 ghost use Rattle.jn_transfer.specs.Contributions.{is_inferred};
 ghost use Rattle.jn_lsp_hover.specs.Worded as spec;

@@ -1,4 +1,4 @@
-use Rattle.std.proofs.Common.{◌<◌, length, ap, sym, ◌∙◌, arith}
+use Rattle.std.proofs.Common.{length, ap, sym, ◌∙◌, arith}
 use Rattle.jn_lsp_hover.specs.Declarations.{declared_at, declared_methods, methods_of}
 use Rattle.jn_lsp_hover.proofs.Declaring.{class_found, class_none}
 use Rattle.jn_lsp_hover.proofs.declared.in_classes.Goals as goal

@@ -1,6 +1,5 @@
-use Rattle.std.proofs.Common.{◌≡◌, true, List, ap, sym, subst, ◌∙◌}
+use Rattle.std.proofs.Common.{List, ap, sym, subst, ◌∙◌}
 use Rattle.jn_env.specs.Order.{Table}
-use Rattle.jn_points.specs.declared.program.Program.{Program}
 use Rattle.jn_quals.specs.Qualifier.{Qualifier}
 use Rattle.jn_reasons_law.specs.Chains.{HasChain}
 use Rattle.jn_reasons_law.specs.Items.{on, Stands}

@@ -1,4 +1,4 @@
-use Rattle.std.proofs.Common.{◌<◌, length, ap, ◌∙◌}
+use Rattle.std.proofs.Common.{ap, ◌∙◌}
 use Rattle.jn_lsp_hover.specs.Searched.{better}
 use Rattle.jn_lsp_hover.specs.Spots.{read}
 use Rattle.jn_lsp_hover.proofs.Searching.{operand_more}

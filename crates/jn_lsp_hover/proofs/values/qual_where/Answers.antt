@@ -1,4 +1,4 @@
-use Rattle.std.proofs.Common.{subst, sym, ◌∙◌}
+use Rattle.std.proofs.Common.{subst, sym}
 use Rattle.jn_env.specs.Order.{Table}
 use Rattle.jn_env.specs.Sized.{Sized}
 use Rattle.jn_tables_law.proofs.Climbing.{sized_at}
