@@ -11,6 +11,7 @@ use Rattle.jn_diag.specs.declared.shown.Verdict.TheVariants.{Accepted, Rejected,
 use Rattle.jn_front.specs.declared.source.SourceFile.{SourceFile}
 use Rattle.jn_notes.specs.declared.note.Notes.{Notes}
 use Rattle.jn_notes.specs.Noted.{AreNotesOf}
+use Rattle.jn_phase_notes.specs.Phases.{PhaseNotes}
 use Rattle.jn_recheck.specs.Sessions.{HaveNotes, IsRecheck, Reports, SessionOf, or_else}
 use Rattle.jn_recheck_law.specs.Reusable.{Solved}
 use Rattle.jn_report.specs.Report.{IsReport}
@@ -36,11 +37,6 @@ reported infer before after files rows places verdict count made chosen same r =
 
 -- ---- notes
 
-abbrev pub IsNotRejected : Verdict → Type 0
-IsNotRejected Accepted = Unit {0}
-IsNotRejected (Rejected n) = ⊥
-IsNotRejected (RefusedVerdict n) = Unit {0}
-
 rejected_refused : (n m : ℕ) → Rejected n ≡ RefusedVerdict m → ⊥
 rejected_refused n m e = cc
 
@@ -64,15 +60,51 @@ noted infer files kept rows verdict n notes r v have = record {
   verdict_is = r.verdict_is;
 }
 
-no_rule_notes : (infer : Infer) (files : List SourceFile) (report : Report) (notes : List Notes) → IsNotRejected (verdict_of report) → notes ≡ [] → AreReportNotes infer files report notes
-no_rule_notes infer files (Refused rs) notes v e = e
-no_rule_notes infer files (Checked []) notes v e = e
-no_rule_notes infer files (Checked (r ∷ rs)) notes v e = absurd v
+accepted_refused : (n : ℕ) → Accepted ≡ RefusedVerdict n → ⊥
+accepted_refused n e = cc
 
-pub not_noted : (infer : Infer) (files : List SourceFile) (kept : Option Solved) (rows : List Row) (verdict : Verdict) (notes : List Notes) → IsReported infer files kept rows verdict → IsNotRejected verdict → notes ≡ [] → AreNoted infer files rows verdict notes
+accepted_rejected : (n : ℕ) → Accepted ≡ Rejected n → ⊥
+accepted_rejected n e = cc
+
+no_rule_notes : (infer : Infer) (files : List SourceFile) (report : Report) (notes : List Notes) → Accepted ≡ verdict_of report → notes ≡ [] → AreReportNotes infer files report notes
+no_rule_notes infer files (Refused rs) notes v e = absurd (accepted_refused (length rs) v)
+no_rule_notes infer files (Checked []) notes v e = e
+no_rule_notes infer files (Checked (r ∷ rs)) notes v e = absurd (accepted_rejected (length (r ∷ rs)) v)
+
+pub not_noted : (infer : Infer) (files : List SourceFile) (kept : Option Solved) (rows : List Row) (verdict : Verdict) (notes : List Notes) → IsReported infer files kept rows verdict → verdict ≡ Accepted → notes ≡ [] → AreNoted infer files rows verdict notes
 not_noted infer files kept rows verdict notes r v e = record {
   report = r.report;
-  found = record { is = r.is; notes_are = no_rule_notes infer files r.report notes (subst IsNotRejected r.verdict_is v) e };
+  found = record { is = r.is; notes_are = no_rule_notes infer files r.report notes (sym v ∙ r.verdict_is) e };
+  rows_are = r.rows_are;
+  verdict_is = r.verdict_is;
+}
+
+-- ---- the notes of a phase
+
+refused_rejected : (n m : ℕ) → RefusedVerdict n ≡ Rejected m → ⊥
+refused_rejected n m e = cc
+
+refused_accepted : (n : ℕ) → RefusedVerdict n ≡ Accepted → ⊥
+refused_accepted n e = cc
+
+phase_rows : (infer : Infer) (files : List SourceFile) (report : Report) (n : ℕ) → RefusedVerdict n ≡ verdict_of report → IsReport infer files report → IsReport infer files (Refused (rows_of report))
+phase_rows infer files (Refused rs) n v is = is
+phase_rows infer files (Checked []) n v is = absurd (refused_accepted n v)
+phase_rows infer files (Checked (r ∷ rs)) n v is = absurd (refused_rejected n (length (r ∷ rs)) v)
+
+-- a refused report's rows are those of a phase
+pub refused_by : (infer : Infer) (files : List SourceFile) (kept : Option Solved) (rows : List Row) (verdict : Verdict) (n : ℕ) → IsReported infer files kept rows verdict → verdict ≡ RefusedVerdict n → IsReport infer files (Refused rows)
+refused_by infer files kept rows verdict n r v = subst (λ xs. IsReport infer files (Refused xs)) (sym r.rows_are) (phase_rows infer files r.report n (sym v ∙ r.verdict_is) r.is)
+
+phase_notes : (infer : Infer) (files : List SourceFile) (report : Report) (rows : List Row) (notes : List Notes) (n : ℕ) → rows ≡ rows_of report → RefusedVerdict n ≡ verdict_of report → PhaseNotes files rows notes → AreReportNotes infer files report notes
+phase_notes infer files (Refused rs) rows notes n e v h = subst (λ xs. PhaseNotes files xs notes) e h
+phase_notes infer files (Checked []) rows notes n e v h = absurd (refused_accepted n v)
+phase_notes infer files (Checked (r ∷ rs)) rows notes n e v h = absurd (refused_rejected n (length (r ∷ rs)) v)
+
+pub phase_noted : (infer : Infer) (files : List SourceFile) (kept : Option Solved) (rows : List Row) (verdict : Verdict) (n : ℕ) (notes : List Notes) → IsReported infer files kept rows verdict → verdict ≡ RefusedVerdict n → PhaseNotes files rows notes → AreNoted infer files rows verdict notes
+phase_noted infer files kept rows verdict n notes r v h = record {
+  report = r.report;
+  found = record { is = r.is; notes_are = phase_notes infer files r.report rows notes n r.rows_are (sym v ∙ r.verdict_is) h };
   rows_are = r.rows_are;
   verdict_is = r.verdict_is;
 }
@@ -98,11 +130,11 @@ IsByRules (Rejected n) = Unit {0}
 IsByRules (RefusedVerdict n) = ⊥
 
 -- a report that ends before the rules
-pub told_refused : (infer : Infer) (last : LastReport) (files : List SourceFile) (rows of_rows : List Row) (verdict : Verdict) (notes : List Notes) (told : List Told) → AreNoted infer files rows verdict notes → IsRefused verdict → of_rows ≡ rows → told ≡ told_from (unchecked_at last files of_rows) 0 files → AreTold infer last false files told
+pub told_refused : (infer : Infer) (last : LastReport) (files : List SourceFile) (rows of_rows : List Row) (verdict : Verdict) (notes : List Notes) (told : List Told) → AreNoted infer files rows verdict notes → IsRefused verdict → of_rows ≡ rows → told ≡ told_from (unchecked_at last files of_rows notes) 0 files → AreTold infer last false files told
 told_refused infer last files rows of_rows verdict notes told noted refused e is = by_report noted.report noted.found noted.rows_are (subst IsRefused noted.verdict_is refused)
   where
     by_report : (report : Report) → AreFindings infer files report notes → rows ≡ rows_of report → IsRefused (verdict_of report) → AreTold infer last false files told
-    by_report (Refused rs) found same v = record { report = Refused rs; notes = notes; found = found; comes = refl; are = is ∙ ap (λ xs. told_from (unchecked_at last files xs) 0 files) (e ∙ same) }
+    by_report (Refused rs) found same v = record { report = Refused rs; notes = notes; found = found; comes = refl; are = is ∙ ap (λ xs. told_from (unchecked_at last files xs notes) 0 files) (e ∙ same) }
     by_report (Checked []) found same v = absurd v
     by_report (Checked (r ∷ rs)) found same v = absurd v
 

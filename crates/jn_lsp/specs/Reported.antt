@@ -18,6 +18,7 @@ use Rattle.jn_lsp_text.specs.declared.reply.Related.{Related}
 use Rattle.jn_lsp_text.specs.declared.reply.Said.TheVariants.{Unchecked}
 use Rattle.jn_notes.specs.declared.note.Notes.{Notes}
 use Rattle.jn_notes.specs.Noted.{AreNotesOf}
+use Rattle.jn_phase_notes.specs.Phases.{PhaseNotes}
 use Rattle.jn_recheck.specs.Files.{is_as_before}
 use Rattle.jn_recheck.specs.Sessions.{IsSolutionOf}
 use Rattle.jn_recheck_law.specs.Reusable.{Solved}
@@ -83,16 +84,16 @@ abbrev pub or_else : List Diagnostic → List Diagnostic → List Diagnostic
 or_else [] other = other
 or_else (first ∷ rest) other = first ∷ rest
 
--- of the file of a number, where the report is these rows before the rules: its rows; where it has none, what was told of its text as it is, and why
--- it isn't checked
-abbrev pub unchecked_at : LastReport → List SourceFile → List Row → ℕ → List Diagnostic
-unchecked_at last files rows at =
+-- of the file of a number, where the report is these rows before the rules, with these notes: its rows; where it has none, what was told of its text as
+-- it is, and why it isn't checked
+abbrev pub unchecked_at : LastReport → List SourceFile → List Row → List Notes → ℕ → List Diagnostic
+unchecked_at last files rows notes at =
     let file = slice_index_or files at no_file in
-    or_else (diagnostics_at files rows [] at) (kept_of last file ++ unchecked_by files rows file)
+    or_else (diagnostics_at files rows notes at) (kept_of last file ++ unchecked_by files rows file)
 
 -- of the file of a number, by the report of the files
 abbrev pub reported_at : LastReport → List SourceFile → Report → List Notes → ℕ → List Diagnostic
-reported_at last files (Refused rows) notes at = unchecked_at last files rows at
+reported_at last files (Refused rows) notes at = unchecked_at last files rows notes at
 reported_at last files (Checked rows) notes at = diagnostics_at files rows notes at
 
 -- ---- reports
@@ -103,9 +104,9 @@ pub record RuleNotes (infer : Infer) (files : List SourceFile) (rows : List Row)
   pub is : IsSolutionOf infer files solved
   pub are : AreNotesOf solved.program solved.names solved.signature rows notes
 
--- the notes of a report's rows: only those of the rules have any
+-- the notes of a report's rows: those of a phase, or of the rules
 abbrev pub AreReportNotes : Infer → List SourceFile → Report → List Notes → Type 0
-AreReportNotes infer files (Refused rows) notes = notes ≡ []
+AreReportNotes infer files (Refused rows) notes = PhaseNotes files rows notes
 AreReportNotes infer files (Checked []) notes = notes ≡ []
 AreReportNotes infer files (Checked (row ∷ rows)) notes = RuleNotes infer files (row ∷ rows) notes
 

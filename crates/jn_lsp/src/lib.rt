@@ -20,6 +20,7 @@ pub mod law;
 mod offering;
 pub mod phase;
 mod publishing;
+mod refused;
 mod reporting;
 pub mod server;
 mod standing;

@@ -4,6 +4,7 @@ ghost use Rattle.jn_lsp.specs.Reported.{AreNoted, AreTold, IsReported, IsTold};
 ghost use Rattle.jn_recheck.specs.Files.{AllFit, HaveOwnNames};
 
 use crate::diagnostics::{Told, told_of_all};
+use crate::refused::notes_of_refused;
 use crate::unchecked::{LastReport, unchecked_of_all};
 use jn_base::{Infer, OutOfMemory};
 use jn_diag::Verdict;
@@ -17,8 +18,10 @@ use std::thread::Threads;
 /// How many workers share the work of a report, and of what is offered.
 pub(crate) const WORKERS: u32 = 4;
 
-/// The notes of a report's rows: only those of the rules have any.
-fn notes_of(
+/// The notes of a report's rows: those of a phase, or of the rules.
+fn notes_of<R: Threads + Sync, G: Gate + Sync>(
+    rt: &R,
+    gate: &G,
     alloc: Global,
     infer: Infer,
     session: &Session,
@@ -28,15 +31,16 @@ fn notes_of(
     requires { IsReported infer files.now session.now.kept checked.now.places.items checked.now.verdict }
     ensures { IfOk result (λ notes. AreNoted infer files.now checked.now.places.items checked.now.verdict notes.items) }
 {
-    let _infer = infer;
-    let _files = files;
     match checked.verdict {
         Verdict::Rejected(_) => {
             let notes = session.notes_of(checked.places.as_slice())?;
             Ok(notes)
         }
         Verdict::Accepted => Ok(Vec::new(alloc)),
-        Verdict::Refused(_) => Ok(Vec::new(alloc)),
+        Verdict::Refused(_) => {
+            let notes = notes_of_refused(rt, gate, alloc, infer, files, checked.places.as_slice())?;
+            Ok(notes)
+        }
     }
 }
 
@@ -74,7 +78,7 @@ fn tale_of(
     let rows = checked.places.as_slice();
     match checked.verdict {
         Verdict::Refused(_) => {
-            let told = unchecked_of_all(alloc, last, files, rows)?;
+            let told = unchecked_of_all(alloc, last, files, rows, notes)?;
             Ok(Tale { told, came: false })
         }
         Verdict::Rejected(_) => {
@@ -105,7 +109,7 @@ fn report<R: Threads + Sync, G: Gate + Sync>(
 {
     session.replace(files)?;
     let checked = session.report(rt, WORKERS, gate, gate)?;
-    let notes = notes_of(alloc, infer, session, files, &checked)?;
+    let notes = notes_of(rt, gate, alloc, infer, session, files, &checked)?;
     let tale = tale_of(alloc, infer, last, files, &checked, notes.as_slice())?;
     Ok(tale)
 }

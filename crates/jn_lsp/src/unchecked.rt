@@ -15,6 +15,7 @@ use jn_base::{Code, OutOfMemory, Place, Row, Seq, Span, Text, place_of as place_
 use jn_front::SourceFile;
 use jn_lsp_hover::related::{home, name_of, range_in};
 use jn_lsp_text::{Diagnostic, Related, Said, copy_diagnostics};
+use jn_notes::Notes;
 use std::alloc::{AllocError, Global};
 
 /// The last report that came to the rules: the files that stood then, and what it told of each of them. Before the first one there are none.
@@ -215,14 +216,15 @@ fn unchecked_at(
     last: &LastReport,
     files: &[SourceFile],
     rows: &[Row],
+    notes: &[Notes],
     at: usize,
 ) -> Result<Seq<Diagnostic>, AllocError>
     requires fit { AllFit files.now }
     requires there { at < length files.now }
     ensures { IfOk result (λ diagnostics. diagnostics
-        ≡ spec.unchecked_at last.now files.now rows.now at) }
+        ≡ spec.unchecked_at last.now files.now rows.now notes.now at) }
 {
-    let own = diagnostics_at(alloc, files, rows, &[], at)?;
+    let own = diagnostics_at(alloc, files, rows, notes, at)?;
     if own.len() == 0 {
         kept(alloc, last, files, rows, &files[at])
     } else {
@@ -230,20 +232,21 @@ fn unchecked_at(
     }
 }
 
-/// What is told of each file, where these rows end the report before the rules.
+/// What is told of each file, where these rows, with these notes, end the report before the rules.
 pub(crate) fn unchecked_of_all(
     alloc: Global,
     last: &LastReport,
     files: &[SourceFile],
     rows: &[Row],
+    notes: &[Notes],
 ) -> Result<Vec<Told>, OutOfMemory>
     requires fit { AllFit files.now }
     ensures { IfOk result (λ told. told.items
-        ≡ told_from (spec.unchecked_at last.now files.now rows.now) 0 files.now) }
+        ≡ told_from (spec.unchecked_at last.now files.now rows.now notes.now) 0 files.now) }
 {
     let mut told = Vec::new(alloc);
     for at in 0..files.len() {
-        let diagnostics = unchecked_at(alloc, last, files, rows, at)?;
+        let diagnostics = unchecked_at(alloc, last, files, rows, notes, at)?;
         push(&mut told, told_of(alloc, &files[at], diagnostics)?)?;
     }
     Ok(told)

@@ -1,3 +1,4 @@
 pub mod Clashing
+pub mod Phases
 pub mod Stopping
 pub mod Tables

@@ -1,3 +1,4 @@
 pub mod Others
+pub mod Phases
 pub mod Stops
 pub mod Trees

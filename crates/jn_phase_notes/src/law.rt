@@ -9,7 +9,13 @@ ghost use Rattle.jn_points.specs.Members.{some_of};
 ghost use Rattle.jn_declaration_rules.specs.Rows.{is_bad_override, is_hiding, lacks_body, some_at};
 ghost use Rattle.jn_front.specs.declared.source.SourceFile.{SourceFile};
 ghost use Rattle.jn_notes.specs.declared.note.Notes.{Notes};
+ghost use Rattle.jn_places.specs.Placed.{PlacedFile};
+ghost use Rattle.jn_command.specs.Stands.{StandIn};
+ghost use Rattle.jn_front.specs.declared.source.SourceRead.{SourceRead};
+ghost use Rattle.jn_front.specs.Files.{AreReads, files_of_reads};
+ghost use Rattle.jn_phases.specs.Phases.{AreTreesOrNone};
 ghost use Rattle.jn_phase_notes.specs.Others.{clashes, has_abstract, hides};
+ghost use Rattle.jn_phase_notes.specs.Phases.{AreNotesBy, PhaseNotes};
 ghost use Rattle.jn_phase_notes.specs.Stops.{AreStops};
 
 use jn_follow::law::rows_have_one_stop_note;
@@ -31,4 +37,12 @@ pub fn rows_speak_of_what_makes_them()
         ≡ (not x.interface && not x.is_abstract && some_at (has_abstract P c) 0 P.methods) }
     ensures hiding { (P : ProgramOf) (x : FieldOf)
         → is_hiding P x ≡ some_of (hides P x) P.fields }
+{}
+
+/// The notes of rows of a phase by what was read are those of the files, where the rows stand in what was read.
+pub fn notes_by_what_was_read_are_those_of_files()
+    ensures { (reads : List SourceRead) (files : List SourceFile) (names : List (List ℕ))
+        (trees : List PlacedFile) (rows : List Row) (notes : List Notes)
+        → AreReads reads files → StandIn reads rows → AreTreesOrNone files names trees
+        → AreNotesBy (files_of_reads reads) names trees rows notes → PhaseNotes files rows notes }
 {}

@@ -27,7 +27,8 @@ use Rattle.jn_reporters.specs.declared.shown.ShownRow.{ShownRow}
 use Rattle.jn_notes.specs.declared.note.Notes.{Notes}
 use Rattle.jn_notes.specs.Noted.{AreNotesOf}
 use Rattle.nullcheck_top.specs.declared.found.Found.{Found}
-use Rattle.nullcheck_top.specs.Found.{AreAtHand, AreLeft, AreNotesBy, AreWhole, IsBroken, IsFinding, IsGiven, IsLeft}
+use Rattle.jn_phase_notes.specs.Phases.{AreNotesBy}
+use Rattle.nullcheck_top.specs.Found.{AreAtHand, AreLeft, AreWhole, IsBroken, IsFinding, IsGiven, IsLeft}
 use Rattle.jn_phase_notes.specs.Stops.{AreStops}
 use Rattle.nullcheck_top.specs.Report.{AreNotes, RuleNotes, placed}
 use Rattle.nullcheck_top.proofs.Stopping.{one_list_of_phase, phase_shown}

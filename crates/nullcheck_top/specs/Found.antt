@@ -22,9 +22,7 @@ use Rattle.jn_reporters.specs.declared.shown.ShownRow.{ShownRow}
 use Rattle.nullcheck_top.specs.declared.found.Found.{Found}
 use Rattle.jn_phases.specs.Phases.{AreTreesOrNone, NoneParsed, TypedProgramOf}
 use Rattle.jn_report.specs.Report.{IsReport}
-use Rattle.jn_notes.specs.declared.note.Notes.{Notes}
-use Rattle.jn_phase_notes.specs.Stops.{AreStops, is_syntax}
-use Rattle.jn_phase_notes.specs.Trees.{row_notes}
+use Rattle.jn_phase_notes.specs.Stops.{is_syntax}
 use Rattle.nullcheck_top.specs.Report.{AreNotes}
 
 -- the program of accepted files is at hand, and none where they aren't accepted
@@ -56,11 +54,6 @@ pub record IsFinding (infer : Infer) (files : List SourceFile) (names : List (Li
 -- of files that a phase refused, the names and the trees are at hand, or they have none
 abbrev pub AreAtHand : List SourceRead → Report → List (List ℕ) → List PlacedFile → Type 0
 AreAtHand reads report names trees = (rows : List Row) → report ≡ Refused rows → (files : List SourceFile) → AreReads reads files → AreTreesOrNone files names trees
-
--- the notes of rows of a phase by these names and trees; by the texts, where no name is known
-abbrev pub AreNotesBy : List SourceFile → List (List ℕ) → List PlacedFile → List Row → List Notes → Type 0
-AreNotesBy files [] trees rows notes = AreStops files rows notes
-AreNotesBy files (name ∷ names) trees rows notes = notes ≡ map (row_notes (name ∷ names) trees) rows
 
 -- what is found where the rules have these rows: the program and its signature are accepted, or left
 abbrev pub found_of : List Row → Result (Program × List Qualifier) (Program × List Qualifier) → Found

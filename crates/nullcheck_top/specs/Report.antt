@@ -1,5 +1,5 @@
 -- What is promised of files beside their report and their safety: the notes of its rows, and what their main does.
-use Rattle.std.specs.Prelude.{ℕ, ◌≡◌, ◌⊎◌, List, [], ◌∷◌, map}
+use Rattle.std.specs.Prelude.{ℕ, ◌≡◌, List, [], ◌∷◌, map}
 use Rattle.jn_base.specs.declared.place.Row.{Row}
 use Rattle.jn_points.specs.declared.program.Program.{Program}
 use Rattle.jn_base.specs.declared.infer.Infer.{Infer}
@@ -11,17 +11,13 @@ use Rattle.jn_command.specs.Shown.{note_of}
 use Rattle.jn_notes.specs.declared.note.Note.{Note}
 use Rattle.jn_notes.specs.declared.note.Notes.{Notes}
 use Rattle.jn_notes.specs.Noted.{AreNotesOf}
-use Rattle.jn_phase_notes.specs.Stops.{AreStops}
-use Rattle.jn_phase_notes.specs.Trees.{row_notes}
+use Rattle.jn_phase_notes.specs.Phases.{PhaseNotes as AreOfPhase}
 use Rattle.jn_reporters.specs.declared.shown.ShownNote.{ShownNote}
 use Rattle.jn_command.specs.declared.report.Report.TheVariants.{Refused, Checked}
 use Rattle.jn_inference_law.specs.Solution.{IsLeastSignature}
 use Rattle.jn_run.specs.Main.{RunsTo as ProgramRunsTo, Prints as ProgramPrints}
-use Rattle.jn_trees.specs.declared.token.Token.{Token}
-use Rattle.jn_places.specs.Placed.{PlacedFile}
 use Rattle.jn_front.specs.declared.source.SourceFile.{SourceFile}
-use Rattle.jn_front.specs.Phases.{AreParsed}
-use Rattle.jn_phases.specs.Phases.{NoneParsed, TypedProgramOf}
+use Rattle.jn_phases.specs.Phases.{TypedProgramOf}
 
 -- notes as they are shown: with the places of their first bytes in the files
 abbrev pub placed_note : List SourceFile → Note → ShownNote
@@ -42,24 +38,11 @@ pub record RuleNotes (infer : Infer) (files : List SourceFile) (rows : List Row)
   pub are : AreNotesOf P names signature rows notes
   pub places : noted ≡ map (placed files) notes
 
--- the notes of rows of files that have no trees: beside each syntax row, where its file stops being of the subset
-pub record StopNotes (files : List SourceFile) (rows : List Row) (noted : List Noted) : Type 0 where
-  pub unparsed : NoneParsed files
-  pub notes : List Notes
-  pub are : AreStops files rows notes
-  pub places : noted ≡ map (placed files) notes
-
--- the notes of rows of files that have trees: beside a row of the class table, the other declaration of which it speaks
-pub record TreeNotes (files : List SourceFile) (rows : List Row) (noted : List Noted) : Type 0 where
-  pub names : List (List ℕ)
-  pub tokens : List (List Token)
-  pub trees : List PlacedFile
-  pub parsed : AreParsed files names tokens trees
-  pub places : noted ≡ map (placed files) (map (row_notes names trees) rows)
-
 -- the notes of rows of a phase before the rules
-abbrev pub PhaseNotes : List SourceFile → List Row → List Noted → Type 0
-PhaseNotes files rows noted = StopNotes files rows noted ⊎ TreeNotes files rows noted
+pub record PhaseNotes (files : List SourceFile) (rows : List Row) (noted : List Noted) : Type 0 where
+  pub notes : List Notes
+  pub are : AreOfPhase files rows notes
+  pub places : noted ≡ map (placed files) notes
 
 -- the notes of a report's rows: those of a phase, or of the rules
 abbrev pub AreNotes : Infer → List SourceFile → Report → List Noted → Type 0

@@ -15,7 +15,7 @@ ghost use Rattle.jn_inference_law.specs.Solution.{IsLeastSignature};
 ghost use Rattle.jn_notes.specs.Noted.{AreNotesOf};
 ghost use Rattle.jn_places.specs.PlacedView.{placed_file};
 ghost use Rattle.nullcheck_top.specs.Report.{placed};
-ghost use Rattle.nullcheck_top.specs.Found.{AreAtHand, AreNotesBy, AreWhole, IsFinding, IsGiven, IsRefusalOf, ShowsReport};
+ghost use Rattle.nullcheck_top.specs.Found.{AreAtHand, AreWhole, IsFinding, IsGiven, IsRefusalOf, ShowsReport};
 
 use crate::check::refuse_number;
 use crate::found::Found;
@@ -29,7 +29,7 @@ use jn_front::SourceRead;
 use jn_index::BaseTyped;
 use jn_inference_law::law::regular_programs_are_inferable;
 use jn_notes::{Notes, notes_of_rows};
-use jn_phase_notes::{notes_of_texts, notes_of_trees};
+use jn_phase_notes::notes_of_phase;
 use jn_reporters::Reporter;
 use jn_sigs::Sig;
 use jn_trees::{FileTree, Names};
@@ -76,26 +76,6 @@ fn show_found<P: Reporter>(
             let notes = notes_of_phase(alloc, reads, names, trees, rows)?;
             show_with(alloc, reads, &found.report, &notes, reporter)
         }
-    }
-}
-
-/// The notes of rows of a phase: by the trees of the files, or by their texts where no name of them is known.
-fn notes_of_phase(
-    alloc: Global,
-    reads: &[SourceRead],
-    names: &Names,
-    trees: &[FileTree],
-    rows: &[Row],
-) -> Result<Vec<Notes>, OutOfMemory>
-    requires { ReadsFit reads.now }
-    ensures { IfOk result
-        (λ notes. AreNotesBy (files_of_reads reads.now) names.now (map placed_file trees.now) rows.now
-        notes.items) }
-{
-    if names.len() == 0 {
-        notes_of_texts(alloc, reads, rows)
-    } else {
-        notes_of_trees(alloc, names, trees, rows)
     }
 }
 

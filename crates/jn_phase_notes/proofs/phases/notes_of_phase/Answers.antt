@@ -1,8 +1,8 @@
 use Rattle.std.proofs.Common.{map, sym, ◌∙◌}
 use Rattle.jn_front.specs.Files.{files_of_reads}
 use Rattle.jn_places.specs.PlacedView.{placed_file}
-use Rattle.nullcheck_top.proofs.Stopping.{by_texts, by_trees}
-use Rattle.nullcheck_top.proofs.outputs.notes_of_phase.Goals as goal
+use Rattle.jn_phase_notes.proofs.Phases.{by_texts, by_trees}
+use Rattle.jn_phase_notes.proofs.phases.notes_of_phase.Goals as goal
 
 pub returns-then-len-eq0 : goal.returns-then-len-eq0
 returns-then-len-eq0 c = by_texts (files_of_reads c.args.reads.now) (map placed_file c.args.trees.now) c.args.rows.now c.args.names.now c.notes_of_texts.result (sym c.len.ensures ∙ c.if-len-eq0.true) c.notes_of_texts.ensures
