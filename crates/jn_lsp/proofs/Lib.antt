@@ -8,3 +8,4 @@ pub mod Upholding
 pub mod Finding
 pub mod Keeping
 pub mod Answering
+pub mod Refusing

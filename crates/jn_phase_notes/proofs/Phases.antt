@@ -1,19 +1,20 @@
 -- Notes by what was read are those of the files.
-use Rattle.std.proofs.Common.{◌≡◌, ℕ, zero, suc, Bool, true, false, inl, inr, List, [], ◌∷◌, length, map, Some, None, Option, Result, refl, sym, ap, ◌∙◌, subst, arith}
+use Rattle.std.proofs.Common.{◌≡◌, ◌<◌, ℕ, zero, suc, Bool, true, false, inl, inr, List, [], ◌∷◌, length, map, Some, None, Option, Result, refl, sym, ap, ◌∙◌, subst, arith}
 use Rattle.std.specs.Prelude.{IfOk, Vec, slice_get}
 use Rattle.std.specs.declared.alloc.Global.{Global}
 use Rattle.jn_base.specs.declared.code.Code.{Code}
-use Rattle.jn_base.specs.declared.code.Code.TheVariants.{S1}
+use Rattle.jn_base.specs.declared.code.Code.TheVariants.{B1, S1}
 use Rattle.jn_base.specs.declared.place.Row.{Row}
 use Rattle.jn_base.specs.declared.place.Span.{Span}
 use Rattle.jn_command.specs.Stands.{StandsIn, StandIn}
-use Rattle.jn_command.proofs.Standing.{whole_files}
+use Rattle.jn_command.proofs.Standing.{many_limit}
 use Rattle.jn_diag.specs.Order.{code_place}
 use Rattle.jn_front.specs.declared.source.SourceFile.{SourceFile}
 use Rattle.jn_front.specs.declared.source.SourceRead.{SourceRead}
-use Rattle.jn_front.specs.Files.{AreReads, IsReadOf, files_of_reads}
+use Rattle.jn_front.specs.Files.{AreReads, IsReadOf, files_of_reads, most_files}
+use Rattle.jn_front.specs.Limits.{row_at}
 use Rattle.jn_notes.specs.declared.note.Notes.{Notes}
-use Rattle.jn_phases.specs.Phases.{AreTreesOrNone}
+use Rattle.jn_phases.specs.Phases.{AreTreesOrNone, NoneParsed}
 use Rattle.jn_places.specs.Placed.{PlacedFile}
 use Rattle.jn_reporters.specs.Excerpts.{is_limit}
 use Rattle.jn_phase_notes.specs.Phases.{AreNotesBy, PhaseNotes}
@@ -74,3 +75,21 @@ module _ (files : List SourceFile) (trees : List PlacedFile) (rows : List Row) w
 pub notes_of : (reads : List SourceRead) (files : List SourceFile) (names : List (List ℕ)) (trees : List PlacedFile) (rows : List Row) (notes : List Notes) → AreReads reads files → StandIn reads rows → AreTreesOrNone files names trees → AreNotesBy (files_of_reads reads) names trees rows notes → PhaseNotes files rows notes
 notes_of reads files [] trees rows notes are stand none h = inl (record { unparsed = none; are = all_stops reads files rows notes are stand h })
 notes_of reads files (name ∷ names) trees rows notes are stand some h = inr (record { names = name ∷ names; tokens = some.0; trees = trees; parsed = some.1; are = h })
+
+-- ---- too many files
+
+-- they have no trees
+pub many_unparsed : (files : List SourceFile) → most_files < length files → NoneParsed files
+many_unparsed files many names tokens trees parsed = never (many_limit files many ∙ parsed.within)
+  where
+    never : row_at most_files B1 ∷ [] ≡ [] → ⊥
+    never e = cc
+
+-- their one row has no note
+no_stops : (some others : List SourceFile) (notes : List Notes) → AreStops some (row_at most_files B1 ∷ []) notes → AreStops others (row_at most_files B1 ∷ []) notes
+no_stops some others [] h = absurd h
+no_stops some others (n ∷ []) h = (h.0, tt)
+no_stops some others (n ∷ m ∷ notes) h = absurd h.1
+
+pub notes_of_many : (some files : List SourceFile) (rows : List Row) (notes : List Notes) → most_files < length files → row_at most_files B1 ∷ [] ≡ rows → AreStops some rows notes → PhaseNotes files rows notes
+notes_of_many some files rows notes many is h = inl (record { unparsed = many_unparsed files many; are = subst (λ xs. AreStops files xs notes) is (no_stops some files notes (subst (λ xs. AreStops some xs notes) (sym is) h)) })

@@ -1,5 +1,5 @@
 //! Laws of the notes of rows before the rules.
-ghost use Rattle.std.specs.Prelude.{◌≡◌, ◌&&◌, ℕ, List, not};
+ghost use Rattle.std.specs.Prelude.{◌≡◌, ◌<◌, ◌&&◌, ◌∷◌, [], ℕ, List, length, not};
 ghost use Rattle.jn_base.specs.declared.place.Row.{Row};
 ghost use Rattle.jn_points.specs.declared.program.Class.{Class as ClassOf};
 ghost use Rattle.jn_points.specs.declared.program.Field.{Field as FieldOf};
@@ -12,7 +12,9 @@ ghost use Rattle.jn_notes.specs.declared.note.Notes.{Notes};
 ghost use Rattle.jn_places.specs.Placed.{PlacedFile};
 ghost use Rattle.jn_command.specs.Stands.{StandIn};
 ghost use Rattle.jn_front.specs.declared.source.SourceRead.{SourceRead};
-ghost use Rattle.jn_front.specs.Files.{AreReads, files_of_reads};
+ghost use Rattle.jn_front.specs.Files.{AreReads, files_of_reads, most_files};
+ghost use Rattle.jn_front.specs.Limits.{row_at};
+ghost use Rattle.jn_base.specs.declared.code.Code.TheVariants.{B1};
 ghost use Rattle.jn_phases.specs.Phases.{AreTreesOrNone};
 ghost use Rattle.jn_phase_notes.specs.Others.{clashes, has_abstract, hides};
 ghost use Rattle.jn_phase_notes.specs.Phases.{AreNotesBy, PhaseNotes};
@@ -39,10 +41,14 @@ pub fn rows_speak_of_what_makes_them()
         → is_hiding P x ≡ some_of (hides P x) P.fields }
 {}
 
-/// The notes of rows of a phase by what was read are those of the files, where the rows stand in what was read.
+/// The notes of rows of a phase by what was read are those of the files, where the rows stand in what was read; so it is with the one row of too many
+/// files.
 pub fn notes_by_what_was_read_are_those_of_files()
-    ensures { (reads : List SourceRead) (files : List SourceFile) (names : List (List ℕ))
+    ensures read { (reads : List SourceRead) (files : List SourceFile) (names : List (List ℕ))
         (trees : List PlacedFile) (rows : List Row) (notes : List Notes)
         → AreReads reads files → StandIn reads rows → AreTreesOrNone files names trees
         → AreNotesBy (files_of_reads reads) names trees rows notes → PhaseNotes files rows notes }
+    ensures many { (some files : List SourceFile) (rows : List Row) (notes : List Notes)
+        → most_files < length files → row_at most_files B1 ∷ [] ≡ rows
+        → AreStops some rows notes → PhaseNotes files rows notes }
 {}

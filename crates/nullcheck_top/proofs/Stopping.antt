@@ -87,13 +87,6 @@ phase_shown true infer reads files names trees report rows notes b is are stand 
     subst (λ r. AreNotes infer files r (map (placed (files_of_reads reads)) notes)) (sym is)
     (notes_of reads files names trees rows notes are (subst (λ r. StandIn reads (rows_of r)) is stand) (hand rows is files are) h)
 
--- files that are too many have no trees
-pub many_unparsed : (files : List SourceFile) → most_files < length files → NoneParsed files
-many_unparsed files many names tokens trees parsed = never (many_limit files many ∙ parsed.within)
-  where
-    never : row_at most_files B1 ∷ [] ≡ [] → ⊥
-    never e = cc
-
 -- ---- one list of notes
 
 module _ (alone : (files : List SourceFile) (rows : List Row) (ns ms : List Notes) → AreStops files rows ns → AreStops files rows ms → ns ≡ ms) (parsed : OneReading) (files : List SourceFile) (rows : List Row) (one other : List Noted) where
