@@ -1,4 +1,4 @@
 pub mod Clashing
-pub mod Phases
+pub mod Reading
 pub mod Stopping
 pub mod Tables

@@ -29,7 +29,7 @@ use Rattle.jn_notes.specs.declared.note.Notes.{Notes}
 use Rattle.jn_phase_notes.specs.Stops.{AreStops, AreStopsBy, AreStopsIn, is_syntax, stop_notes}
 use Rattle.jn_phase_notes.specs.Phases.{AreNotesBy, PhaseNotes as AreOfPhase}
 use Rattle.jn_phase_notes.specs.Trees.{row_notes}
-use Rattle.jn_phase_notes.proofs.Phases.{notes_of as by_reads, same_file}
+use Rattle.jn_phase_notes.proofs.Reading.{notes_of as by_reads, same_file}
 use Rattle.jn_phases.specs.Phases.{AreTreesOrNone, NoneParsed}
 use Rattle.jn_phases.proofs.OneTyping.{OneReading}
 use Rattle.nullcheck_top.specs.Found.{AreAtHand}

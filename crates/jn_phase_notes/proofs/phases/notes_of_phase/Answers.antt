@@ -1,7 +1,7 @@
 use Rattle.std.proofs.Common.{map, sym, ◌∙◌}
 use Rattle.jn_front.specs.Files.{files_of_reads}
 use Rattle.jn_places.specs.PlacedView.{placed_file}
-use Rattle.jn_phase_notes.proofs.Phases.{by_texts, by_trees}
+use Rattle.jn_phase_notes.proofs.Reading.{by_texts, by_trees}
 use Rattle.jn_phase_notes.proofs.phases.notes_of_phase.Goals as goal
 
 pub returns-then-len-eq0 : goal.returns-then-len-eq0

@@ -9,7 +9,7 @@ use Rattle.jn_command.specs.Shown.{shown}
 use Rattle.jn_command.proofs.Showing.{number_text, name_there, length_is}
 use Rattle.std.proofs.lemmas.List.{length-map}
 use Rattle.jn_report.specs.Report.{IsReport}
-use Rattle.jn_phase_notes.proofs.Phases.{many_unparsed}
+use Rattle.jn_phase_notes.proofs.Reading.{many_unparsed}
 use Rattle.nullcheck_top.proofs.outputs.number_output.Goals as goal
 
 pub returns : goal.returns
