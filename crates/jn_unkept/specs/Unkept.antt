@@ -1,7 +1,6 @@
 -- A test that isn't kept: a value was read by what keeps no test of it, or the result of a test was stored; and the last test before of a value that is
 -- made alike.
 use Rattle.std.specs.Prelude.{ℕ, ◌+◌, Bool, true, false, cond, eqb, ltb, ◌&&◌, Option, Some, None}
-use Rattle.jn_points.specs.declared.point.Literal.{Literal}
 use Rattle.jn_points.specs.declared.point.Literal.TheVariants.{Truth}
 use Rattle.jn_points.specs.declared.point.Point.{Point}
 use Rattle.jn_points.specs.declared.point.PointKind.{PointKind}
