@@ -29,7 +29,7 @@ pub(crate) fn notes_of_refused<R: Threads + Sync, G: Gate + Sync>(
     files: &[SourceFile],
     rows: &[Row],
 ) -> Result<Vec<Notes>, OutOfMemory>
-    requires { IsReport infer files.now (Refused rows.now) }
+    requires report { IsReport infer files.now (Refused rows.now) }
     ensures { IfOk result (λ notes. PhaseNotes files.now rows.now notes.items) }
 {
     files_have_one_typing();

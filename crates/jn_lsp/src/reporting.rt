@@ -28,7 +28,7 @@ fn notes_of<R: Threads + Sync, G: Gate + Sync>(
     files: &[SourceFile],
     checked: &Checked,
 ) -> Result<Vec<Notes>, OutOfMemory>
-    requires { IsReported infer files.now session.now.kept checked.now.places.items checked.now.verdict }
+    requires found { IsReported infer files.now session.now.kept checked.now.places.items checked.now.verdict }
     ensures { IfOk result (λ notes. AreNoted infer files.now checked.now.places.items checked.now.verdict notes.items) }
 {
     match checked.verdict {

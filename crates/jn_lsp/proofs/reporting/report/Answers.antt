@@ -3,8 +3,8 @@ use Rattle.jn_lsp.specs.Reported.{AreNoted}
 use Rattle.jn_lsp.proofs.Finding.{reported}
 use Rattle.jn_lsp.proofs.reporting.report.Goals as goal
 
-pub notes_of-requires : goal.notes_of-requires
-notes_of-requires g c =
+pub notes_of-requires-clause-found : goal.notes_of-requires-clause-found
+notes_of-requires-clause-found g c κs within =
     let checked = c.in_ok-checked.checked in
     reported c.args.infer c.replace.new.self c.report.new.self c.args.files.now checked.rows.items checked.places.items checked.verdict checked.files checked.bodies (c.in_ok-replace.ensures.infer ∙ c.requires.chosen) c.in_ok-replace.ensures.files c.in_ok-checked.ensures.reports
 
