@@ -4,3 +4,5 @@ pub mod Fitting
 pub mod Counting
 pub mod Showing
 pub mod Annotated
+pub mod Wanting
+pub mod Taken

@@ -2,7 +2,10 @@ pub mod Asking
 pub mod Alone
 pub mod Spelled
 pub mod Sweep
+pub mod Nulls
 pub mod Written
+pub mod Own
 pub mod Offered
 pub mod Hinted
 pub mod Annotating
+pub mod Taking

@@ -1,5 +1,5 @@
 -- The actions that are offered at a range of a file: for each row there that speaks of a value or a pair, the first slot of its first chain whose annotation
--- can be written.
+-- can be written; and after those, for each row there, the slots at which it wants null.
 use Rattle.std.specs.Prelude.{ℕ, ◌≡◌, Bool, true, false, cond, ◌||◌, eqb, List, [], ◌∷◌, ◌++◌, map, Option, Some, None}
 use Rattle.jn_base.specs.declared.infer.Infer.{Infer}
 use Rattle.jn_base.specs.declared.place.Row.{Row}
@@ -23,6 +23,8 @@ use Rattle.jn_lsp_text.specs.declared.range.Range.{Range}
 use Rattle.jn_lsp_text.specs.declared.reply.Action.{Action}
 use Rattle.jn_report.specs.Report.{IsCheckedBy, IsReport}
 use Rattle.jn_lsp_actions.specs.Asking.{is_asked}
+use Rattle.jn_lsp_actions.specs.declared.edits.Writing.TheVariants.{Inferred, Null}
+use Rattle.jn_lsp_actions.specs.Own.{rows_want}
 use Rattle.jn_lsp_actions.specs.Written.{give, is_written}
 
 -- ---- the slot of a row
@@ -90,15 +92,30 @@ module _ (files : List SourceFile) (name : List ℕ) (range : Range) where
       pub solved : AreLeastTables P s tables
       pub slots : List (Option ℕ)
       pub each : AreSlotsOf P s tables (is_written files tokens trees P s) is_asked_row rows slots
-      pub are : actions ≡ given (give files names tokens trees P s) slots
+      pub are : actions ≡ given (give files names tokens trees P s Inferred) slots
 
     -- none where a field shares its type with one of another qualifier, as there is no annotating then
     abbrev pub AreUnlessShared : List ℕ → List Row → List Action → Type 0
     AreUnlessShared [] rows actions = AreWritten rows actions
     AreUnlessShared (slot ∷ shared) rows actions = actions ≡ []
 
-    abbrev pub AreOfRules : List Row → List Action → Type 0
-    AreOfRules rows actions = AreUnlessShared (shared_slots P s trees P.fields) rows actions
+    -- those of what is inferred
+    abbrev pub AreOfInferred : List Row → List Action → Type 0
+    AreOfInferred rows actions = AreUnlessShared (shared_slots P s trees P.fields) rows actions
+
+    -- those that write null where a row wants it
+    pub record AreNulls (rows : List Row) (actions : List Action) : Type 0 where
+      pub tables : List Table
+      pub solved : AreLeastTables P s tables
+      pub are : actions ≡ given (give files names tokens trees P s Null) (rows_want P s tables is_asked_row rows)
+
+    -- the first, and then the others
+    pub record AreOfRules (rows : List Row) (actions : List Action) : Type 0 where
+      pub inferred : List Action
+      pub nulls : List Action
+      pub of_inferred : AreOfInferred rows inferred
+      pub of_nulls : AreNulls rows nulls
+      pub are : actions ≡ inferred ++ nulls
 
 module _ (infer : Infer) (files : List SourceFile) (name : List ℕ) (range : Range) where
   -- those of a report: refused files get none

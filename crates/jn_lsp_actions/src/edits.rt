@@ -1,13 +1,15 @@
 //! What writes the annotation of a slot.
-ghost use Rattle.std.specs.Prelude.{◌≡◌, ◌<◌, ◌^◌, length, map, option_to_list, IfOk};
+ghost use Rattle.std.specs.Prelude.{◌≡◌, ◌<◌, ◌^◌, drop, length, map, option_to_list, IfOk};
 ghost use Rattle.jn_recheck.specs.Files.{AllFit};
 ghost use Rattle.jn_trees.specs.View.{file_view};
 ghost use Rattle.jn_annotate.specs.Puts.{insertion, insertions};
 ghost use Rattle.jn_lsp_text.specs.Positions.{position_at};
 ghost use Rattle.jn_notes.specs.Owned.{AreOwners};
+ghost use Rattle.jn_lsp_actions.specs.declared.edits.Writing.TheVariants.{Inferred, Null};
 ghost use Rattle.jn_lsp_actions.specs.Written as spec;
 
 use crate::alone::alone_program;
+use crate::nullable::{declares, null_puts};
 use jn_annotate::files::{fields_behind_types, file_puts, methods_behind_types};
 use jn_annotate::insert::Put;
 use jn_annotate::lines::with_lines;
@@ -15,6 +17,7 @@ use jn_annotate::members::next_methods;
 use jn_annotate::words::is_unspelled;
 use jn_base::{OutOfMemory, Seq, SlotNo, Text};
 use jn_front::SourceFile;
+use jn_known::NULLABLE;
 use jn_lsp_text::{Action, Insertion, Position, position_of};
 use jn_notes::owners::{Owner, owner_at};
 use jn_notes::words::owner_words;
@@ -22,6 +25,13 @@ use jn_points::{Field, Method, Program};
 use jn_sigs::Sig;
 use jn_trees::{FileTree, Names, Token};
 use std::alloc::{AllocError, Global};
+
+/// What is written of a slot: what is inferred of it, or that it may be null.
+#[derive(Clone, Copy, Debug, PartialEq, Eq)]
+pub enum Writing {
+    Inferred,
+    Null,
+}
 
 /// Insertions into the file of a name.
 #[derive(Drop)]
@@ -85,9 +95,37 @@ fn edit_of(alloc: Global, file: &SourceFile, puts: &[Put]) -> Result<Option<Edit
     }
 }
 
+/// The words of a file that declares the first of these fields and methods.
+fn words_of(
+    alloc: Global,
+    writing: Writing,
+    slot: u32,
+    program: &Program,
+    sig: &Sig,
+    file: &SourceFile,
+    tokens: &[Token],
+    tree: &FileTree,
+    fields: &[Field],
+    methods: &[Method],
+) -> Result<Vec<Put>, OutOfMemory>
+    ensures { IfOk result (λ puts. insertions puts.items
+        ≡ spec.words_of writing slot program.now.slots sig.now file.now tokens.now
+        (file_view tree.now) fields.now methods.now) }
+{
+    match writing {
+        Writing::Inferred => {
+            let text = file.bytes.as_slice();
+            file_puts(alloc, program, sig, text, tokens, tree, fields, methods)
+        }
+        Writing::Null => null_puts(alloc, slot, tokens, tree, fields, methods),
+    }
+}
+
 /// The edit of a file that declares the first of these fields and methods.
 fn file_edit(
     alloc: Global,
+    writing: Writing,
+    slot: u32,
     program: &Program,
     sig: &Sig,
     file: &SourceFile,
@@ -99,11 +137,13 @@ fn file_edit(
     requires small { length file.now.bytes < 2 ^ 30 }
     ensures { IfOk result (λ edit. edit
         ≡ spec.edit_of file.now
-        (spec.words_in program.now.slots sig.now file.now tokens.now (file_view tree.now)
-        fields.now methods.now)) }
+        (spec.words_in writing slot program.now.slots sig.now file.now tokens.now
+        (file_view tree.now) fields.now methods.now)) }
 {
     let text = file.bytes.as_slice();
-    let puts = file_puts(alloc, program, sig, text, tokens, tree, fields, methods)?;
+    let puts = words_of(
+        alloc, writing, slot, program, sig, file, tokens, tree, fields, methods,
+    )?;
     let puts = with_lines(alloc, true, text, tokens, tree, puts)?;
     Ok(edit_of(alloc, file, &puts)?)
 }
@@ -112,6 +152,8 @@ fn file_edit(
 fn first_edit(
     files: &[SourceFile],
     alloc: Global,
+    writing: Writing,
+    slot: u32,
     program: &Program,
     sig: &Sig,
     tokens: &[Seq<Token>],
@@ -121,7 +163,7 @@ fn first_edit(
 ) -> Result<Option<Edit>, OutOfMemory>
     requires fit { AllFit files.now }
     ensures { IfOk result (λ edit. edit
-        ≡ spec.first_edit program.now.slots sig.now files.now tokens.now
+        ≡ spec.first_edit writing slot program.now.slots sig.now files.now tokens.now
         (map file_view trees.now) fields.now methods.now) }
 {
     match files {
@@ -132,11 +174,16 @@ fn first_edit(
                 [] => Ok(None),
                 [tree, other_trees @ ..] => {
                     let first = first.as_slice();
-                    match file_edit(alloc, program, sig, file, first, tree, fields, methods)? {
+                    let found = file_edit(
+                        alloc, writing, slot, program, sig, file, first, tree, fields, methods,
+                    )?;
+                    match found {
                         Some(edit) => Ok(Some(edit)),
                         None => first_edit(
                             other_files,
                             alloc,
+                            writing,
+                            slot,
                             program,
                             sig,
                             other_tokens,
@@ -151,25 +198,37 @@ fn first_edit(
     }
 }
 
+/// How a title begins.
+fn title_front(writing: Writing) -> &'static [u8]
+    ensures { result.now ≡ spec.title_front writing }
+{
+    match writing {
+        Writing::Inferred => b"write what is inferred of ",
+        Writing::Null => b"write `@Nullable` at ",
+    }
+}
+
 impl<'a> Solved<'a> {
-    /// What writes the annotation of a slot; none of one that isn't inferred, that no annotation says, or that has no words of its own.
-    ///
-    /// # Errors
-    /// No memory was found.
-    pub fn edit_of_slot(&self, alloc: Global, slot: u32) -> Result<Option<Edit>, OutOfMemory>
+    /// What writes the slot's annotation, of a program that has these slots.
+    fn edit_with(
+        &self,
+        alloc: Global,
+        writing: Writing,
+        slot: u32,
+        program: &Program,
+    ) -> Result<Option<Edit>, OutOfMemory>
         requires fit { AllFit self.now.files.now }
         ensures { IfOk result (λ edit. edit
-            ≡ spec.edit_of_slot self.now.files.now self.now.tokens.now
-            (map file_view self.now.trees.now) self.now.program.now self.now.sig.now slot) }
+            ≡ spec.first_edit writing slot program.now.slots self.now.sig.now self.now.files.now
+            self.now.tokens.now (map file_view self.now.trees.now) self.now.program.now.fields
+            (drop 1 self.now.program.now.methods)) }
     {
-        if is_unspelled(self.sig.get(SlotNo(slot))) {
-            return Ok(None);
-        }
-        let alone = alone_program(alloc, self.program, slot)?;
         first_edit(
             self.files,
             alloc,
-            &alone,
+            writing,
+            slot,
+            program,
             self.sig,
             self.tokens,
             self.trees,
@@ -178,7 +237,58 @@ impl<'a> Solved<'a> {
         )
     }
 
-    /// Whether the slot's annotation can be written.
+    /// What writes the inferred annotation of a slot.
+    fn inferred_edit(&self, alloc: Global, slot: u32) -> Result<Option<Edit>, OutOfMemory>
+        requires fit { AllFit self.now.files.now }
+        ensures { IfOk result (λ edit. edit
+            ≡ spec.edit_of_slot self.now.files.now self.now.tokens.now
+            (map file_view self.now.trees.now) self.now.program.now self.now.sig.now Inferred
+            slot) }
+    {
+        if is_unspelled(self.sig.get(SlotNo(slot))) {
+            return Ok(None);
+        }
+        let alone = alone_program(alloc, self.program, slot)?;
+        self.edit_with(alloc, Writing::Inferred, slot, &alone)
+    }
+
+    /// What writes `@Nullable` for a slot.
+    fn null_edit(&self, alloc: Global, slot: u32) -> Result<Option<Edit>, OutOfMemory>
+        requires fit { AllFit self.now.files.now }
+        ensures { IfOk result (λ edit. edit
+            ≡ spec.edit_of_slot self.now.files.now self.now.tokens.now
+            (map file_view self.now.trees.now) self.now.program.now self.now.sig.now Null slot) }
+    {
+        if declares(self.trees, NULLABLE) {
+            return Ok(None);
+        }
+        self.edit_with(alloc, Writing::Null, slot, self.program)
+    }
+
+    /// What is written of a slot; none where it can't be written alone. What is inferred isn't where no annotation says it, nor of a slot that
+    /// isn't inferred.
+    ///
+    /// # Errors
+    /// No memory was found.
+    pub fn edit_of_slot(
+        &self,
+        alloc: Global,
+        writing: Writing,
+        slot: u32,
+    ) -> Result<Option<Edit>, OutOfMemory>
+        requires fit { AllFit self.now.files.now }
+        ensures { IfOk result (λ edit. edit
+            ≡ spec.edit_of_slot self.now.files.now self.now.tokens.now
+            (map file_view self.now.trees.now) self.now.program.now self.now.sig.now writing
+            slot) }
+    {
+        match writing {
+            Writing::Inferred => self.inferred_edit(alloc, slot),
+            Writing::Null => self.null_edit(alloc, slot),
+        }
+    }
+
+    /// Whether the slot's inferred annotation can be written.
     ///
     /// # Errors
     /// No memory was found.
@@ -188,36 +298,43 @@ impl<'a> Solved<'a> {
             ≡ spec.is_written self.now.files.now self.now.tokens.now
             (map file_view self.now.trees.now) self.now.program.now self.now.sig.now slot) }
     {
-        let edit = self.edit_of_slot(alloc, slot)?;
+        let edit = self.inferred_edit(alloc, slot)?;
         Ok(edit.is_some())
     }
 
-    fn title_of(&self, alloc: Global, slot: u32) -> Result<Text, AllocError>
+    fn title_of(&self, alloc: Global, writing: Writing, slot: u32) -> Result<Text, AllocError>
         requires owners { AreOwners self.now.program.now self.now.owners.now }
-        ensures { IfOk result (λ title. title ≡ spec.title_of self.now.program.now self.now.names.now slot) }
+        ensures { IfOk result (λ title. title
+            ≡ spec.title_of self.now.program.now self.now.names.now writing slot) }
     {
-        let mut words = Vec::from_slice(alloc, b"write what is inferred of ")?;
+        let mut words = Vec::from_slice(alloc, title_front(writing))?;
         let owner = owner_at(self.owners, slot);
         let owner = owner_words(alloc, self.program, self.names, owner)?;
         words.extend_from_slice(&owner)?;
         Ok(Text::of_string(String::from_utf8_lossy(alloc, &words)?))
     }
 
-    /// The action of a slot, where its annotation can be written.
+    /// The action of a slot, where it can be written.
     ///
     /// # Errors
     /// No memory was found.
-    pub fn action_of_slot(&self, alloc: Global, slot: u32) -> Result<Option<Action>, OutOfMemory>
+    pub fn action_of_slot(
+        &self,
+        alloc: Global,
+        writing: Writing,
+        slot: u32,
+    ) -> Result<Option<Action>, OutOfMemory>
         requires fit { AllFit self.now.files.now }
         requires owners { AreOwners self.now.program.now self.now.owners.now }
         ensures { IfOk result (λ action. option_to_list action
             ≡ spec.give self.now.files.now self.now.names.now self.now.tokens.now
-            (map file_view self.now.trees.now) self.now.program.now self.now.sig.now slot) }
+            (map file_view self.now.trees.now) self.now.program.now self.now.sig.now writing
+            slot) }
     {
-        match self.edit_of_slot(alloc, slot)? {
+        match self.edit_of_slot(alloc, writing, slot)? {
             None => Ok(None),
             Some(edit) => Ok(Some(Action {
-                title: self.title_of(alloc, slot)?,
+                title: self.title_of(alloc, writing, slot)?,
                 name: edit.name,
                 insertions: edit.insertions,
             })),

@@ -1,8 +1,10 @@
 //! From files to the actions that are offered in one of them.
-ghost use Rattle.std.specs.Prelude.{◌≡◌, ◌≤◌, length, map, IfOk, IsSome};
+ghost use Rattle.std.specs.Prelude.{◌≡◌, ◌≤◌, length, map, IfOk, IsSome, OnOk};
+ghost use Rattle.jn_contrib.specs.Entries.{AreOverriders};
 ghost use Rattle.jn_front.specs.Counted.{ReadsFit};
 ghost use Rattle.jn_front.specs.Files.{files_of_reads};
 ghost use Rattle.jn_inference_law.specs.Solution.{IsLeastSignature};
+ghost use Rattle.jn_notes.specs.Noted.{AreLeastTables};
 ghost use Rattle.jn_notes.specs.Owned.{AreOwners};
 ghost use Rattle.jn_places.specs.PlacedView.{placed_file};
 ghost use Rattle.jn_recheck.specs.Files.{AllFit};
@@ -10,14 +12,16 @@ ghost use Rattle.jn_system.specs.Rows.{AreBroken};
 ghost use Rattle.jn_tables_law.specs.Inferable.{IsInferable};
 ghost use Rattle.jn_trees.specs.View.{file_view};
 ghost use Rattle.jn_phases.specs.Phases.{IsTypedOr, TypedProgramOf};
-ghost use Rattle.jn_lsp_actions.specs.Offered.{AreActions, AreOfRules, AreWritten};
+ghost use Rattle.jn_lsp_actions.specs.Offered.{AreActions, AreOfInferred, AreOfRules, AreWritten};
 
 use crate::choosing::{Asked, slots_of};
-use crate::edits::Solved;
-use crate::giving::given;
+use crate::edits::{Solved, Writing};
+use crate::giving::put_given;
+use crate::wants::wanted_of;
 use jn_annotate::shared::first_shared;
 use jn_base::{Infer, OutOfMemory, Row, Seq};
-use jn_contrib::overriders;
+use jn_contrib::{Overrider, overriders};
+use jn_env::FlowTable;
 use jn_front::{SourceFile, SourceRead, lex_all};
 use jn_index::BaseTyped;
 use jn_index::indexed::IndexedProgram;
@@ -40,11 +44,13 @@ use std::thread::Threads;
 /// The greatest number of files.
 pub(crate) const MOST_FILES: usize = 64;
 
-/// The actions of rows of files none of whose fields shares its type with one of another qualifier.
+/// The actions of what is inferred, of rows of files none of whose fields shares its type with one of another qualifier.
 fn written_at(
     alloc: Global,
     solved: &Solved,
     indexed: &IndexedProgram,
+    tables: &[FlowTable],
+    overriders: &[Overrider],
     asked: &Asked,
     rows: &[Row],
 ) -> Result<Seq<Action>, OutOfMemory>
@@ -53,21 +59,79 @@ fn written_at(
     requires least { IsLeastSignature solved.now.program.now solved.now.sig.now }
     requires owners { AreOwners solved.now.program.now solved.now.owners.now }
     requires indexed { indexed.now ≡ solved.now.program.now }
+    requires solved { AreLeastTables solved.now.program.now solved.now.sig.now tables.now }
+    requires overriders { AreOverriders solved.now.program.now overriders.now }
     ensures { IfOk result (λ actions.
         AreWritten solved.now.files.now asked.now.name.now asked.now.range solved.now.names.now
         solved.now.tokens.now (map file_view solved.now.trees.now) solved.now.program.now
         solved.now.sig.now rows.now actions) }
 {
     least_tables_are_sized();
-    let tables = least_tables(alloc, solved.program, solved.sig)?;
-    let overriders = overriders(alloc, indexed)?;
-    let origins = LeastOrigins::new(alloc, indexed, solved.sig, &tables)?;
-    let slots = slots_of(alloc, solved, &tables, &overriders, &origins, asked, rows)?;
-    given(alloc, solved, &slots)
+    let origins = LeastOrigins::new(alloc, indexed, solved.sig, tables)?;
+    let slots = slots_of(alloc, solved, tables, overriders, &origins, asked, rows)?;
+    let mut actions = Seq::new(alloc);
+    put_given(&mut actions, alloc, solved, Writing::Inferred, &slots)?;
+    Ok(actions)
+}
+
+/// The actions of what is inferred.
+#[tactic(auto, using(crate::proofs::Offering::some_shared, crate::proofs::Offering::none_shared))]
+fn unless_shared(
+    alloc: Global,
+    solved: &Solved,
+    indexed: &IndexedProgram,
+    tables: &[FlowTable],
+    overriders: &[Overrider],
+    asked: &Asked,
+    rows: &[Row],
+) -> Result<Seq<Action>, OutOfMemory>
+    requires fit { AllFit solved.now.files.now }
+    requires inferable { IsInferable solved.now.program.now }
+    requires least { IsLeastSignature solved.now.program.now solved.now.sig.now }
+    requires owners { AreOwners solved.now.program.now solved.now.owners.now }
+    requires indexed { indexed.now ≡ solved.now.program.now }
+    requires solved { AreLeastTables solved.now.program.now solved.now.sig.now tables.now }
+    requires overriders { AreOverriders solved.now.program.now overriders.now }
+    ensures { IfOk result (λ actions.
+        AreOfInferred solved.now.files.now asked.now.name.now asked.now.range
+        solved.now.names.now solved.now.tokens.now (map file_view solved.now.trees.now)
+        solved.now.program.now solved.now.sig.now rows.now actions) }
+{
+    match first_shared(alloc, solved.program, solved.sig, solved.trees)? {
+        Some(_) => Ok(Seq::new(alloc)),
+        None => written_at(alloc, solved, indexed, tables, overriders, asked, rows),
+    }
+}
+
+/// Puts the actions that write null after the others.
+#[tactic(auto, using(crate::proofs::Offering::with_own))]
+fn put_nulls(
+    actions: &mut Seq<Action>,
+    alloc: Global,
+    solved: &Solved,
+    tables: &[FlowTable],
+    overriders: &[Overrider],
+    asked: &Asked,
+    rows: &[Row],
+) -> Result<(), OutOfMemory>
+    requires fit { AllFit solved.now.files.now }
+    requires inferable { IsInferable solved.now.program.now }
+    requires owners { AreOwners solved.now.program.now solved.now.owners.now }
+    requires solved { AreLeastTables solved.now.program.now solved.now.sig.now tables.now }
+    requires overriders { AreOverriders solved.now.program.now overriders.now }
+    requires inferred { AreOfInferred solved.now.files.now asked.now.name.now asked.now.range
+        solved.now.names.now solved.now.tokens.now (map file_view solved.now.trees.now)
+        solved.now.program.now solved.now.sig.now rows.now actions.old }
+    ensures { OnOk result
+        (AreOfRules solved.now.files.now asked.now.name.now asked.now.range solved.now.names.now
+        solved.now.tokens.now (map file_view solved.now.trees.now) solved.now.program.now
+        solved.now.sig.now rows.now actions.new) }
+{
+    let slots = wanted_of(alloc, solved, tables, overriders, asked, rows)?;
+    put_given(actions, alloc, solved, Writing::Null, &slots)
 }
 
 /// The actions of rows of the rules.
-#[tactic(auto, using(crate::proofs::Offering::some_shared, crate::proofs::Offering::none_shared))]
 fn of_rules(
     alloc: Global,
     solved: &Solved,
@@ -85,10 +149,11 @@ fn of_rules(
         solved.now.tokens.now (map file_view solved.now.trees.now) solved.now.program.now
         solved.now.sig.now rows.now actions) }
 {
-    match first_shared(alloc, solved.program, solved.sig, solved.trees)? {
-        Some(_) => Ok(Seq::new(alloc)),
-        None => written_at(alloc, solved, indexed, asked, rows),
-    }
+    let tables = least_tables(alloc, solved.program, solved.sig)?;
+    let overriders = overriders(alloc, indexed)?;
+    let mut actions = unless_shared(alloc, solved, indexed, &tables, &overriders, asked, rows)?;
+    put_nulls(&mut actions, alloc, solved, &tables, &overriders, asked, rows)?;
+    Ok(actions)
 }
 
 /// The actions of files with this program, whose least signature and rows these are.

@@ -6,7 +6,7 @@ ghost use Rattle.jn_trees.specs.View.{file_view};
 ghost use Rattle.jn_lsp_actions.specs.Offered as spec;
 ghost use Rattle.jn_lsp_actions.specs.Written.{give};
 
-use crate::edits::Solved;
+use crate::edits::{Solved, Writing};
 use jn_base::{OutOfMemory, Seq};
 use jn_lsp_text::Action;
 use std::alloc::{AllocError, Global};
@@ -38,6 +38,7 @@ fn comes(slot: u32, slots: &[Option<u32>]) -> bool
 fn given_here(
     alloc: Global,
     solved: &Solved,
+    writing: Writing,
     slot: Option<u32>,
     slots: &[Option<u32>],
 ) -> Result<Option<Action>, OutOfMemory>
@@ -45,7 +46,7 @@ fn given_here(
     requires owners { AreOwners solved.now.program.now solved.now.owners.now }
     ensures { IfOk result (λ action. option_to_list action
         ≡ spec.given_here (give solved.now.files.now solved.now.names.now solved.now.tokens.now
-        (map file_view solved.now.trees.now) solved.now.program.now solved.now.sig.now)
+        (map file_view solved.now.trees.now) solved.now.program.now solved.now.sig.now writing)
         slot slots.now) }
 {
     match slot {
@@ -54,7 +55,7 @@ fn given_here(
             if comes(slot, slots) {
                 Ok(None)
             } else {
-                solved.action_of_slot(alloc, slot)
+                solved.action_of_slot(alloc, writing, slot)
             }
         }
     }
@@ -69,27 +70,29 @@ fn push_some(actions: &mut Seq<Action>, action: Option<Action>) -> Result<(), Al
     }
 }
 
-/// The actions of slots, each where its slot comes last.
+/// Puts the actions of slots after the others, each where its slot comes last.
 ///
 /// # Errors
 /// No memory was found.
-pub fn given(
+pub fn put_given(
+    actions: &mut Seq<Action>,
     alloc: Global,
     solved: &Solved,
+    writing: Writing,
     slots: &[Option<u32>],
-) -> Result<Seq<Action>, OutOfMemory>
+) -> Result<(), OutOfMemory>
     requires fit { AllFit solved.now.files.now }
     requires owners { AreOwners solved.now.program.now solved.now.owners.now }
-    ensures { IfOk result (λ actions. actions
-        ≡ spec.given (give solved.now.files.now solved.now.names.now solved.now.tokens.now
-        (map file_view solved.now.trees.now) solved.now.program.now solved.now.sig.now)
+    ensures { OnOk result (actions.new
+        ≡ actions.old
+        ++ spec.given (give solved.now.files.now solved.now.names.now solved.now.tokens.now
+        (map file_view solved.now.trees.now) solved.now.program.now solved.now.sig.now writing)
         slots.now) }
 {
-    let mut actions = Seq::new(alloc);
     let mut rest = slots;
     while let [slot, more @ ..] = rest {
-        push_some(&mut actions, given_here(alloc, solved, *slot, more)?)?;
+        push_some(actions, given_here(alloc, solved, writing, *slot, more)?)?;
         rest = more;
     }
-    Ok(actions)
+    Ok(())
 }

@@ -18,8 +18,10 @@ pub mod giving;
 pub mod hinting;
 pub mod hints;
 pub mod law;
+pub mod nullable;
 pub mod spelled;
 pub mod sweep;
+pub mod wants;
 
 pub use files::actions_for;
 pub use hinting::hints_for;

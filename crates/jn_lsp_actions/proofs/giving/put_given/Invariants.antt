@@ -2,12 +2,12 @@ use Rattle.std.proofs.Common.{◌≡◌, ◌++◌, length, map}
 use Rattle.jn_trees.specs.View.{file_view}
 use Rattle.jn_lsp_actions.specs.Offered as spec
 use Rattle.jn_lsp_actions.specs.Written.{give}
-use Rattle.jn_lsp_actions.proofs.giving.given.Given as goal
+use Rattle.jn_lsp_actions.proofs.giving.put_given.Given as goal
 
 abbrev pub invariant-loop-rest : goal.invariant-loop-rest
 invariant-loop-rest l =
-    let one = give l.solved.files.now l.solved.names.now l.solved.tokens.now (map file_view l.solved.trees.now) l.solved.program.now l.solved.sig.now in
-    l.actions ++ spec.given one l.rest ≡ spec.given one l.slots
+    let one = give l.solved.files.now l.solved.names.now l.solved.tokens.now (map file_view l.solved.trees.now) l.solved.program.now l.solved.sig.now l.writing in
+    l.actions ++ spec.given one l.rest ≡ l.fn.actions ++ spec.given one l.slots
 
 abbrev pub decreases-loop-rest : goal.decreases-loop-rest
 decreases-loop-rest l = length l.rest
