@@ -30,6 +30,7 @@ number_of (Some slot) = Some slot.0
 
 -- ---- of a value
 
+-- the bit of null
 abbrev pub is_null : Bit → Bool
 is_null Nullable = true
 is_null Committed = false

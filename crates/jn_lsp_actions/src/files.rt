@@ -272,9 +272,14 @@ fn finish<R: Threads + Sync, G: Gate + Sync>(
 /// files puts for that slot ([`jn_annotate::annotate`]), with lines that import them where the file doesn't, into the file that declares the
 /// slot, which may be another one. A worker enters the gate when it takes a file, infers, or checks a body.
 ///
-/// None is offered where the files are refused, where the row speaks of no value and of no overriding pair, where its chain has no slot
-/// whose annotation can be written, and, as [`jn_annotate::annotate`] refuses such files, where a field shares its type with one of another
-/// qualifier.
+/// After those stand the edits that write `@Nullable` where a row wants null, once for each slot, in the order of the report: at the field, the parameter
+/// or the result that takes a value which may be null, at the overrider's parameter where the overridden method's may be null, and at the
+/// overridden method's result where the overrider's may be.
+///
+/// None is offered where the files are refused. None of what is inferred is where the row speaks of no value and of no overriding pair, where its
+/// chain has no slot whose annotation can be written, and, as [`jn_annotate::annotate`] refuses such files, where a field shares its type with one
+/// of another qualifier. No `@Nullable` is where nullity is said, at a field that is declared together with another one, and where a type of the files
+/// has that name.
 ///
 /// # Errors
 /// No memory was found.
