@@ -1,14 +1,16 @@
 -- Actions of the files' report.
-use Rattle.std.proofs.Common.{◌≡◌, ℕ, true, List, [], ◌∷◌, map, Some, None, refl, sym, ap, ◌∙◌, subst}
+use Rattle.std.proofs.Common.{◌≡◌, ℕ, true, List, [], ◌∷◌, ◌++◌, map, Option, Some, None, refl, sym, ap, ◌∙◌, subst}
 use Rattle.std.proofs.lemmas.Bool.{false≢true}
 use Rattle.jn_annotate.specs.Shared.{IsLeast, is_among, shared_slots}
 use Rattle.jn_base.specs.declared.infer.Infer.{Infer}
 use Rattle.jn_base.specs.declared.place.Row.{Row}
 use Rattle.jn_command.specs.declared.report.Report.TheVariants.{Refused, Checked}
+use Rattle.jn_env.specs.Order.{Table}
 use Rattle.jn_front.specs.declared.source.SourceFile.{SourceFile}
 use Rattle.jn_inference_law.specs.Solution.{IsLeastSignature}
 use Rattle.jn_lsp_text.specs.declared.range.Range.{Range}
 use Rattle.jn_lsp_text.specs.declared.reply.Action.{Action}
+use Rattle.jn_notes.specs.Noted.{AreLeastTables}
 use Rattle.jn_places.specs.Forget.{forget_file}
 use Rattle.jn_places.specs.PlacedView.{placed_file}
 use Rattle.jn_points.specs.declared.program.Program.{Program}
@@ -20,7 +22,10 @@ use Rattle.jn_trees.specs.Trees.{SourceTree}
 use Rattle.jn_trees.specs.View.{file_view}
 use Rattle.jn_phases.specs.Phases.{IsPhase, TypedProgramOf}
 use Rattle.jn_report.specs.Report.{IsCheckedBy}
-use Rattle.jn_lsp_actions.specs.Offered.{AreActions, AreOfRules, AreUnlessShared, AreWritten}
+use Rattle.jn_lsp_actions.specs.declared.edits.Writing.TheVariants.{Null}
+use Rattle.jn_lsp_actions.specs.Offered.{AreActions, AreOfInferred, AreOfRules, AreUnlessShared, AreWritten, given, is_asked_row}
+use Rattle.jn_lsp_actions.specs.Own.{rows_want}
+use Rattle.jn_lsp_actions.specs.Written.{give}
 
 pub views : ((tree : FileTree) → forget_file (placed_file tree) ≡ file_view tree) → (trees : List FileTree) → map file_view trees ≡ map forget_file (map placed_file trees)
 views view [] = refl
@@ -32,12 +37,23 @@ module _ (files : List SourceFile) (name : List ℕ) (range : Range) (names : Li
   shared n (m ∷ ns) rows actions h e = e
 
   -- where a type is shared
-  pub some_shared : (n : ℕ) (rows : List Row) (actions : List Action) → IsLeast (Some n) (shared_slots P s trees P.fields) → actions ≡ [] → AreOfRules files name range names tokens trees P s rows actions
+  pub some_shared : (n : ℕ) (rows : List Row) (actions : List Action) → IsLeast (Some n) (shared_slots P s trees P.fields) → actions ≡ [] → AreOfInferred files name range names tokens trees P s rows actions
   some_shared n rows actions h e = shared n (shared_slots P s trees P.fields) rows actions h.0 e
 
   -- where none is
-  pub none_shared : (rows : List Row) (actions : List Action) → IsLeast None (shared_slots P s trees P.fields) → AreWritten files name range names tokens trees P s rows actions → AreOfRules files name range names tokens trees P s rows actions
+  pub none_shared : (rows : List Row) (actions : List Action) → IsLeast None (shared_slots P s trees P.fields) → AreWritten files name range names tokens trees P s rows actions → AreOfInferred files name range names tokens trees P s rows actions
   none_shared rows actions e h = subst (λ (ns : List ℕ). AreUnlessShared files name range names tokens trees P s ns rows actions) (sym e) h
+
+  -- with those that write null after them
+  pub with_nulls : (tables : List Table) (slots : List (Option ℕ)) (rows : List Row) (inferred all : List Action) → AreLeastTables P s tables → slots ≡ rows_want P s tables (is_asked_row files name range) rows
+      → AreOfInferred files name range names tokens trees P s rows inferred → all ≡ inferred ++ given (give files names tokens trees P s Null) slots → AreOfRules files name range names tokens trees P s rows all
+  with_nulls tables slots rows inferred all solved are h e = record {
+    inferred = inferred;
+    nulls = given (give files names tokens trees P s Null) slots;
+    of_inferred = h;
+    of_nulls = record { tables = tables; solved = solved; are = ap (given (give files names tokens trees P s Null)) are };
+    are = e;
+  }
 
 module _ (infer : Infer) (files : List SourceFile) (name : List ℕ) (range : Range) where
   -- of files that were checked

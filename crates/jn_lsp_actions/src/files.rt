@@ -104,7 +104,7 @@ fn unless_shared(
 }
 
 /// Puts the actions that write null after the others.
-#[tactic(auto, using(crate::proofs::Offering::with_own))]
+#[tactic(auto, using(crate::proofs::Offering::with_nulls))]
 fn put_nulls(
     actions: &mut Seq<Action>,
     alloc: Global,
