@@ -152,7 +152,15 @@ fn of_rules(
     let tables = least_tables(alloc, solved.program, solved.sig)?;
     let overriders = overriders(alloc, indexed)?;
     let mut actions = unless_shared(alloc, solved, indexed, &tables, &overriders, asked, rows)?;
-    put_nulls(&mut actions, alloc, solved, &tables, &overriders, asked, rows)?;
+    put_nulls(
+        &mut actions,
+        alloc,
+        solved,
+        &tables,
+        &overriders,
+        asked,
+        rows,
+    )?;
     Ok(actions)
 }
 

@@ -145,7 +145,15 @@ fn put_parameter(
 {
     let before = local_marks_say(&parameter.modifiers);
     let type_use = behind_local_marks(tokens, &parameter.modifiers);
-    put_null(alloc, puts, slot, before, type_use, &parameter.type_use, has)
+    put_null(
+        alloc,
+        puts,
+        slot,
+        before,
+        type_use,
+        &parameter.type_use,
+        has,
+    )
 }
 
 /// Of parameters, in their order.
@@ -192,9 +200,7 @@ fn put_result(
 {
     match result_use {
         ResultUse::Void(_) => Ok(()),
-        ResultUse::Value(type_use) => {
-            put_null(alloc, puts, slot, before, tokens, type_use, has)
-        }
+        ResultUse::Value(type_use) => { put_null(alloc, puts, slot, before, tokens, type_use, has) }
     }
 }
 
@@ -220,7 +226,15 @@ fn put_method(
         (spell_receiver (receiver_view receiver.now)))
         (parameter_views parameters.now) method.now.param_slots)) }
 {
-    put_result(alloc, puts, slot, before, tokens, result_use, method.result_slot)?;
+    put_result(
+        alloc,
+        puts,
+        slot,
+        before,
+        tokens,
+        result_use,
+        method.result_slot,
+    )?;
     let paren = step(behind_result(tokens, result_use));
     let first = behind_receiver(step(paren), receiver);
     put_parameters(
