@@ -1,5 +1,5 @@
 -- What a written `@Nullable` says.
-use Rattle.std.proofs.Common.{◌≡◌, ℕ, Bool, true, false, not, ◌&&◌, ◌||◌, cond, refl, sym, ap, ◌∙◌, subst}
+use Rattle.std.proofs.Common.{◌≡◌, ℕ, Bool, true, false, not, ◌||◌, cond, refl, sym, subst}
 use Rattle.jn_heads.specs.Extract.{notes_by}
 use Rattle.jn_heads.specs.Types.{field_qual, is_written, slot_of, written_qual}
 use Rattle.jn_heads.specs.declared.head.Notes.{Notes}

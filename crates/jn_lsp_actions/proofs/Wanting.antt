@@ -1,5 +1,5 @@
 -- Slots at which rows want null, one list of them after the other.
-use Rattle.std.proofs.Common.{◌≡◌, ℕ, suc, ◌+◌, List, [], ◌∷◌, ◌++◌, map, Option, Some, None, refl, sym, ap, ◌∙◌, append_assoc, arith}
+use Rattle.std.proofs.Common.{◌≡◌, ℕ, suc, ◌+◌, List, [], ◌∷◌, ◌++◌, map, Option, Some, refl, ap, ◌∙◌, append_assoc, arith}
 use Rattle.std.specs.Prelude.{drop, flat_map, slice_get}
 use Rattle.jn_base.specs.declared.place.Span.{Span}
 use Rattle.jn_contrib.specs.Entries.{AreOverriders}
@@ -9,7 +9,7 @@ use Rattle.jn_points.specs.Lookup.{method_at}
 use Rattle.jn_points.specs.declared.program.Method.{Method}
 use Rattle.jn_points.specs.declared.program.Program.{Program}
 use Rattle.jn_quals.specs.Qualifier.{Qualifier}
-use Rattle.jn_transfer.specs.Pairs.{overriders, under}
+use Rattle.jn_transfer.specs.Pairs.{under}
 use Rattle.jn_lsp_actions.specs.Own.{all_wants, listed_wants, method_wants}
 
 -- what is left of a list is put after its next part

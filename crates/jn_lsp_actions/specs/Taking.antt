@@ -1,7 +1,7 @@
 -- What a written `@Nullable` says of the slot where it stands.
 use Rattle.std.specs.Prelude.{ℕ, ◌≡◌, Bool, true, false}
 use Rattle.jn_heads.specs.Extract.{notes_by}
-use Rattle.jn_heads.specs.Types.{field_qual, slot_of, written_qual}
+use Rattle.jn_heads.specs.Types.{slot_of}
 use Rattle.jn_heads.specs.declared.head.Notes.{Notes}
 use Rattle.jn_known.specs.Known.{nullable_name}
 use Rattle.jn_points.specs.declared.program.SlotInfo.{SlotInfo}

@@ -1,5 +1,5 @@
 //! The slots at which rows want null.
-ghost use Rattle.std.specs.Prelude.{◌≡◌, ◌++◌, flat_map, IfOk, OnOk, None, slice_index_or, List};
+ghost use Rattle.std.specs.Prelude.{◌≡◌, ◌++◌, flat_map, IfOk, OnOk, None, slice_index_or};
 ghost use Rattle.jn_contrib.specs.Entries.{AreOverriders};
 ghost use Rattle.jn_points.specs.Lookup.{method_at, slots_of};
 ghost use Rattle.jn_recheck.specs.Files.{AllFit};
