@@ -6,5 +6,5 @@ use Rattle.jn_lsp_actions.proofs.wants.put_lowers.Given as goal
 
 abbrev pub invariant-loop-lower : goal.invariant-loop-lower
 invariant-loop-lower l =
-    let one = λ k. spec.lower_wants l.sig l.part l.over (method_at l.program k) in
-    l.slots.items ++ flat_map one (drop l.lower-index l.under) ≡ l.fn.slots.items ++ flat_map one l.under
+    l.slots.items ++ flat_map (λ k. spec.lower_wants l.sig l.part l.over (method_at l.program k)) (drop l.lower-index l.under)
+    ≡ l.fn.slots.items ++ flat_map (λ k. spec.lower_wants l.sig l.part l.over (method_at l.program k)) l.under
