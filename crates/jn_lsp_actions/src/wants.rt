@@ -282,7 +282,10 @@ fn put_pair(
 {
     match part {
         None => Ok(()),
-        Some(part) => put_overriders(slots, sig, program, span, part, overriders),
+        Some(part) => {
+            put_overriders(slots, sig, program, span, part, overriders)?;
+            Ok(())
+        }
     }
 }
 
