@@ -267,7 +267,6 @@ fn put_overriders(
 }
 
 /// Of a row of an overriding pair.
-#[tactic(auto, using(crate::proofs::Wanting::pairs_want))]
 fn put_pair(
     slots: &mut Vec<Option<u32>>,
     sig: &Sig,
