@@ -19,6 +19,7 @@ abbrev pub head_of : Code → Option ShownNote → List ℕ
 head_of code None = codes " " ++ code_name code
 head_of code (Some note) = codes ": " ++ note_words note
 
+-- a row, with whether it has an end, what its group is told by, and its line as the plain report has it
 abbrev pub caused_of : ShownRow → Caused
 caused_of row = record { ends = is_some (end_of row.notes); head = head_of row.text.code (end_of row.notes); line = plain_row row }
 
@@ -36,5 +37,6 @@ abbrev pub text_of : List Caused → Option Verdict → List ℕ
 text_of rows None = []
 text_of rows (Some verdict) = causes_text rows ++ verdict_line verdict
 
+-- the bytes of rows and a verdict
 abbrev pub causes_shown : List ShownRow → Option Verdict → List ℕ
 causes_shown rows verdict = text_of (map caused_of rows) verdict
