@@ -57,9 +57,10 @@ all_stops : (reads : List SourceRead) (files : List SourceFile) (rows : List Row
 all_stops reads files [] [] are stand h = tt
 all_stops reads files [] (n ∷ notes) are stand h = absurd h
 all_stops reads files (row ∷ rows) [] are stand h = absurd h
-all_stops reads files (row ∷ rows) (n ∷ notes) are stand h =
-    (by_same (slice_get (files_of_reads reads) row.span.file.0) (slice_get files row.span.file.0) (is_syntax row.code) row.span n (λ is. same_file reads files row.span.file.0 row are is stand.0) h.0,
-     all_stops reads files rows notes are stand.1 h.1)
+all_stops reads files (row ∷ rows) (n ∷ notes) are stand h = (
+  by_same (slice_get (files_of_reads reads) row.span.file.0) (slice_get files row.span.file.0) (is_syntax row.code) row.span n (λ is. same_file reads files row.span.file.0 row are is stand.0) h.0,
+  all_stops reads files rows notes are stand.1 h.1,
+)
 
 -- ---- by what is known of the files
 
