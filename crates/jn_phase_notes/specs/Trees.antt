@@ -1,16 +1,24 @@
--- The notes of rows of files that have trees: beside a row of the class table, the other declaration of which it speaks.
-use Rattle.std.specs.Prelude.{ℕ, List, [], ◌++◌, codes, Option, option_map, false}
+-- The notes of rows of files that have trees: beside a row of the class table or a second local, the other declaration of which it speaks; beside a member that isn't there, those of its name.
+use Rattle.std.specs.Prelude.{ℕ, List, ◌++◌, codes, find, Option, option_map, false}
 use Rattle.jn_base.specs.declared.code.Code.{Code}
-use Rattle.jn_base.specs.declared.code.Code.TheVariants.{T1, T4, T5, T6, T7}
+use Rattle.jn_base.specs.declared.code.Code.TheVariants.{J1, J2, T1, T4, T5, T6, T7}
 use Rattle.jn_base.specs.declared.place.Row.{Row}
+use Rattle.jn_base.specs.declared.place.Span.{Span}
+use Rattle.jn_points.specs.declared.program.Program.{Program}
 use Rattle.jn_trees.specs.declared.expression.Identifier.{Identifier}
 use Rattle.jn_places.specs.Placed.{PlacedFile}
+use Rattle.jn_heads.specs.declared.head.ClassHead.{ClassHead}
 use Rattle.jn_heads.specs.Extract.{heads}
 use Rattle.jn_classtable.specs.Table.{table}
 use Rattle.jn_notes.specs.declared.note.Note.{Note}
 use Rattle.jn_notes.specs.declared.note.Notes.{Notes}
 use Rattle.jn_notes.specs.Worded.{text_at}
+use Rattle.jn_phase_notes.specs.declared.mentioning.Mention.{Mention}
+use Rattle.jn_phase_notes.specs.declared.repeated.Second.{Second}
+use Rattle.jn_phase_notes.specs.Earlier.{files_seconds}
+use Rattle.jn_phase_notes.specs.Mentions.{files_mentions}
 use Rattle.jn_phase_notes.specs.Others.{other}
+use Rattle.jn_phase_notes.specs.Possible.{begins_at, member_notes}
 use Rattle.jn_phase_notes.specs.Stops.{one_note}
 
 -- what is said before the name of the other declaration
@@ -22,6 +30,7 @@ words_before code = codes "`"
 -- what is said after it, up to the place
 abbrev pub words_behind : Code → List ℕ
 words_behind T1 = codes "` is first declared at"
+words_behind J1 = codes "` is first declared at"
 words_behind T4 = codes "` with as many parameters is first declared at"
 words_behind T6 = codes "` has no body, as declared at"
 words_behind code = codes "`, as declared at"
@@ -30,6 +39,16 @@ words_behind code = codes "`, as declared at"
 abbrev pub other_note : List (List ℕ) → Code → Identifier → Note
 other_note names code x = record { joined = false; ends = false; words = words_before code ++ text_at names x.name.0 ++ words_behind code; span = x.span }
 
--- the notes of a row: that of the other declaration, where it speaks of one
+-- the local or parameter that stands where one of its name is declared at a place
+abbrev pub first_local : List Second → Span → Option Identifier
+first_local ss span = option_map (λ (x : Second). x.first) (find (λ (x : Second). begins_at x.span span) ss)
+
+-- the notes of a row, by what is declared and named: that of the other declaration, where it speaks of one, or those of the members that it may mean
+abbrev pub notes_by : List (List ℕ) → List ClassHead → Program → List Second → List Mention → Span → Code → Notes
+notes_by names hs P ss ms span J1 = one_note (option_map (other_note names J1) (first_local ss span))
+notes_by names hs P ss ms span J2 = member_notes names P ms span
+notes_by names hs P ss ms span code = one_note (option_map (other_note names code) (other hs P span code))
+
+-- the same of files
 abbrev pub row_notes : List (List ℕ) → List PlacedFile → Row → Notes
-row_notes names trees row = one_note (option_map (other_note names row.code) (other (heads trees) (table (heads trees)) row.span row.code))
+row_notes names trees row = notes_by names (heads trees) (table (heads trees)) (files_seconds trees) (files_mentions trees) row.span row.code

@@ -1,4 +1,5 @@
-//! The notes of rows of files that have trees: beside a row of the class table, the other declaration of which it speaks.
+//! The notes of rows of files that have trees: beside a row of the class table or a second local, the other declaration of which it
+//! speaks; beside a member that isn't there, those of its name.
 ghost use Rattle.std.specs.Prelude.{◌≡◌, ◌<◌, ◌^◌, ◌++◌, length, map, option_map, IfOk, IfSome};
 ghost use Rattle.jn_places.specs.PlacedView.{placed_file};
 ghost use Rattle.jn_heads.specs.Extract as extract;
@@ -11,8 +12,13 @@ ghost use Rattle.jn_phase_notes.specs.Others as others;
 ghost use Rattle.jn_phase_notes.specs.Stops.{one_note};
 ghost use Rattle.jn_phase_notes.specs.Trees as spec;
 
+use crate::candidates::{begins_at, mention_at};
 use crate::members::{clashing, hidden, lacking};
+use crate::mentioning::Mention;
+use crate::naming::mentions_of;
 use crate::places::{first_class, first_field, first_method, first_param_of, same_span};
+use crate::repeated::{Second, seconds_of};
+use crate::saying::mention_notes;
 use crate::stops::one_note;
 use jn_base::lists::put;
 use jn_base::{Code, FileNo, NameNo, OutOfMemory, Row, Seq, Span};
@@ -99,6 +105,7 @@ fn words_behind(code: Code) -> &'static str
 {
     match code {
         Code::T1 => "` is first declared at",
+        Code::J1 => "` is first declared at",
         Code::T4 => "` with as many parameters is first declared at",
         Code::T6 => "` has no body, as declared at",
         _ => "`, as declared at",
@@ -106,7 +113,7 @@ fn words_behind(code: Code) -> &'static str
 }
 
 /// The text of a name; empty where there is no such name.
-fn text_at(names: &Names, name: NameNo) -> &str
+pub(crate) fn text_at(names: &Names, name: NameNo) -> &str
     ensures { result.now ≡ text_at names.now name.0 }
 {
     if (name.0 as usize) < names.len() {
@@ -117,7 +124,12 @@ fn text_at(names: &Names, name: NameNo) -> &str
 }
 
 /// A text, a name and a text.
-fn between(alloc: Global, front: &str, name: &str, back: &str) -> Result<Vec<u8>, AllocError>
+pub(crate) fn between(
+    alloc: Global,
+    front: &str,
+    name: &str,
+    back: &str,
+) -> Result<Vec<u8>, AllocError>
     ensures { IfOk result (λ words. words.items ≡ front.now ++ name.now ++ back.now) }
 {
     let mut words = Vec::from_slice(alloc, front.as_bytes())?;
@@ -181,34 +193,56 @@ fn notes_of_other(
     }
 }
 
-/// The notes of a row, by heads and their program.
+/// The local or parameter that stands where one of its name is declared at a place.
+fn first_local(seconds: &[Second], span: Span) -> Option<Identifier>
+    ensures { result ≡ spec.first_local seconds.now span }
+{
+    for second in seconds {
+        if begins_at(second.span, span) {
+            return Some(second.first);
+        }
+    }
+    None
+}
+
+/// The notes of a row, by what is declared and named.
 fn notes_of_row(
     alloc: Global,
     names: &Names,
     heads: &[ClassHead],
     program: &Program,
     index: &Option<Index>,
+    seconds: &[Second],
+    mentions: &[Mention],
     row: Row,
 ) -> Result<Notes, OutOfMemory>
     requires index { IfSome index.now (λ i. IsIndex program.now i) }
     requires few { length program.now.classes < 2 ^ 32 }
     requires small { length program.now.methods < 2 ^ 32 }
     requires short { ParamsFit program.now }
-    ensures { IfOk result
-        (λ notes. notes ≡ one_note (option_map (spec.other_note names.now row.code)
-        (others.other heads.now program.now row.span row.code))) }
+    ensures { IfOk result (λ notes. notes
+        ≡ spec.notes_by names.now heads.now program.now seconds.now mentions.now row.span
+        row.code) }
 {
-    let found = other_by(alloc, heads, program, index, row.span, row.code)?;
-    notes_of_other(alloc, names, row.code, elsewhere(row.span, found))
+    match row.code {
+        Code::J1 => notes_of_other(alloc, names, Code::J1, first_local(seconds, row.span)),
+        Code::J2 => mention_notes(alloc, names, program, mention_at(mentions, row.span)),
+        _ => {
+            let found = other_by(alloc, heads, program, index, row.span, row.code)?;
+            notes_of_other(alloc, names, row.code, elsewhere(row.span, found))
+        }
+    }
 }
 
-/// The notes of rows, by heads and their program.
+/// The notes of rows, by what is declared and named.
 fn notes_of_rows(
     alloc: Global,
     names: &Names,
     heads: &[ClassHead],
     program: &Program,
     index: &Option<Index>,
+    seconds: &[Second],
+    mentions: &[Mention],
     rows: &[Row],
 ) -> Result<Vec<Notes>, OutOfMemory>
     requires index { IfSome index.now (λ i. IsIndex program.now i) }
@@ -216,13 +250,12 @@ fn notes_of_rows(
     requires small { length program.now.methods < 2 ^ 32 }
     requires short { ParamsFit program.now }
     ensures { IfOk result (λ notes. notes.items
-        ≡ map (λ row. one_note (option_map (spec.other_note names.now row.code)
-        (others.other heads.now program.now row.span row.code)))
-        rows.now) }
+        ≡ map (λ row. spec.notes_by names.now heads.now program.now seconds.now mentions.now
+        row.span row.code) rows.now) }
 {
     let mut list = Vec::new(alloc);
     for row in rows {
-        let notes = notes_of_row(alloc, names, heads, program, index, *row)?;
+        let notes = notes_of_row(alloc, names, heads, program, index, seconds, mentions, *row)?;
         put(&mut list, notes)?;
     }
     Ok(list)
@@ -234,17 +267,21 @@ fn notes_of_declared(
     alloc: Global,
     names: &Names,
     declared: &Declarations,
+    seconds: &[Second],
+    mentions: &[Mention],
     rows: &[Row],
 ) -> Result<Vec<Notes>, OutOfMemory>
     requires { SmallTable declared.now }
     ensures { IfOk result (λ notes. notes.items
-        ≡ map (λ row. one_note (option_map (spec.other_note names.now row.code)
-        (others.other declared.now (table declared.now) row.span row.code)))
-        rows.now) }
+        ≡ map (λ row. spec.notes_by names.now declared.now (table declared.now) seconds.now
+        mentions.now row.span row.code) rows.now) }
 {
     let program = table(alloc, declared)?;
     let index = Index::new(alloc, &program)?;
-    notes_of_rows(alloc, names, declared.heads(), &program, &index, rows)
+    let heads = declared.heads();
+    notes_of_rows(
+        alloc, names, heads, &program, &index, seconds, mentions, rows,
+    )
 }
 
 /// The notes of rows of files that have these trees and names, row by row.
@@ -265,5 +302,14 @@ pub fn notes_of_trees(
         return Err(OutOfMemory);
     }
     let declared = Declarations::new(alloc, heads)?;
-    notes_of_declared(alloc, names, &declared, rows)
+    let seconds = seconds_of(alloc, trees)?;
+    let mentions = mentions_of(alloc, trees)?;
+    notes_of_declared(
+        alloc,
+        names,
+        &declared,
+        seconds.as_slice(),
+        mentions.as_slice(),
+        rows,
+    )
 }

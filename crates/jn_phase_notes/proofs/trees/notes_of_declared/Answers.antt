@@ -1,18 +1,18 @@
 use Rattle.std.proofs.Common.{◌≡◌, List, map, subst}
-use Rattle.std.specs.Prelude.{IfOk, option_map}
+use Rattle.std.specs.Prelude.{IfOk}
 use Rattle.jn_base.specs.declared.place.Row.{Row}
 use Rattle.jn_points.specs.declared.program.Program.{Program}
 use Rattle.jn_heads.specs.declared.head.ClassHead.{ClassHead}
 use Rattle.jn_classtable.specs.Table.{table}
-use Rattle.jn_phase_notes.specs.Others.{other}
-use Rattle.jn_phase_notes.specs.Stops.{one_note}
-use Rattle.jn_phase_notes.specs.Trees.{other_note}
+use Rattle.jn_phase_notes.specs.Trees.{notes_by}
 use Rattle.jn_phase_notes.proofs.trees.notes_of_declared.Goals as goal
 
 pub returns : goal.returns
 returns c =
     let names = c.args.names.now in
     let rows = c.args.rows.now in
+    let ss = c.args.seconds.now in
+    let ms = c.args.mentions.now in
     let made = c.notes_of_rows.result in
-    subst (λ (hs : List ClassHead). IfOk made (λ notes. notes.items ≡ map (λ (row : Row). one_note (option_map (other_note names row.code) (other hs (table c.args.declared.now) row.span row.code))) rows)) c.heads.ensures
-    (subst (λ (P : Program). IfOk made (λ notes. notes.items ≡ map (λ (row : Row). one_note (option_map (other_note names row.code) (other c.heads.result.now P row.span row.code))) rows)) c.in_ok-program.ensures c.notes_of_rows.ensures)
+    subst (λ (hs : List ClassHead). IfOk made (λ notes. notes.items ≡ map (λ (row : Row). notes_by names hs (table c.args.declared.now) ss ms row.span row.code) rows)) c.heads-heads.ensures
+    (subst (λ (P : Program). IfOk made (λ notes. notes.items ≡ map (λ (row : Row). notes_by names c.heads-heads.result.now P ss ms row.span row.code) rows)) c.in_ok-program.ensures c.notes_of_rows.ensures)

@@ -1,0 +1,7 @@
+use Rattle.std.proofs.Common.{◌≡◌, ◌++◌, flat_map, drop}
+use Rattle.jn_places.specs.PlacedView.{placed_members}
+use Rattle.jn_phase_notes.specs.Mentions.{member_mentions}
+use Rattle.jn_phase_notes.proofs.naming.members.Given as goal
+
+abbrev pub invariant-loop-tree : goal.invariant-loop-tree
+invariant-loop-tree l = l.found ++ flat_map (member_mentions l.within.own l.within.parent) (placed_members (drop l.tree-index l.trees)) ≡ l.fn.found ++ flat_map (member_mentions l.within.own l.within.parent) (placed_members l.trees)
