@@ -104,10 +104,6 @@ candidate_note names k x = record { joined = false; ends = false; words = lead_w
 abbrev pub candidate_notes : List (List ℕ) → ℕ → List Candidate → Notes
 candidate_notes names k xs = record { shown = map (candidate_note names k) (take most_shown xs); more = length xs - most_shown }
 
--- two places begin at the same byte
-abbrev pub begins_at : Span → Span → Bool
-begins_at x y = eqb x.file.0 y.file.0 && eqb x.from y.from
-
 -- the notes of what is named at a place
 abbrev pub mention_notes : List (List ℕ) → Program → Option Mention → Notes
 mention_notes names P None = no_notes
@@ -115,4 +111,4 @@ mention_notes names P (Some m) = candidate_notes names m.arguments (candidates P
 
 -- of a row J2 at a place, by all that is named in the files
 abbrev pub member_notes : List (List ℕ) → Program → List Mention → Span → Notes
-member_notes names P ms span = mention_notes names P (find (λ (m : Mention). begins_at m.span span) ms)
+member_notes names P ms span = mention_notes names P (find (λ (m : Mention). same_span m.span span) ms)

@@ -12,13 +12,14 @@ use Rattle.jn_heads.specs.Extract.{heads}
 use Rattle.jn_classtable.specs.Table.{table}
 use Rattle.jn_notes.specs.declared.note.Note.{Note}
 use Rattle.jn_notes.specs.declared.note.Notes.{Notes}
+use Rattle.jn_notes.specs.Asked.{same_span}
 use Rattle.jn_notes.specs.Worded.{text_at}
 use Rattle.jn_phase_notes.specs.declared.mentioning.Mention.{Mention}
 use Rattle.jn_phase_notes.specs.declared.repeated.Second.{Second}
 use Rattle.jn_phase_notes.specs.Earlier.{files_seconds}
 use Rattle.jn_phase_notes.specs.Mentions.{files_mentions}
 use Rattle.jn_phase_notes.specs.Others.{other}
-use Rattle.jn_phase_notes.specs.Possible.{begins_at, member_notes}
+use Rattle.jn_phase_notes.specs.Possible.{member_notes}
 use Rattle.jn_phase_notes.specs.Stops.{one_note}
 
 -- what is said before the name of the other declaration
@@ -41,7 +42,7 @@ other_note names code x = record { joined = false; ends = false; words = words_b
 
 -- the local or parameter that stands where one of its name is declared at a place
 abbrev pub first_local : List Second → Span → Option Identifier
-first_local ss span = option_map (λ (x : Second). x.first) (find (λ (x : Second). begins_at x.span span) ss)
+first_local ss span = option_map (λ (x : Second). x.first) (find (λ (x : Second). same_span x.span span) ss)
 
 -- the notes of a row, by what is declared and named: that of the other declaration, where it speaks of one, or those of the members that it may mean
 abbrev pub notes_by : List (List ℕ) → List ClassHead → Program → List Second → List Mention → Span → Code → Notes

@@ -2,6 +2,7 @@
 ghost use Rattle.std.specs.Prelude.{◌≡◌, ◌++◌, eqb, flat_map, find, IfOk, OnOk, Some};
 ghost use Rattle.jn_points.specs.Lookup.{class_info};
 ghost use Rattle.jn_points.specs.Members.{first_at};
+ghost use Rattle.jn_notes.specs.Asked as asked;
 ghost use Rattle.jn_phase_notes.specs.Possible as spec;
 
 use crate::mentioning::{Kind, Mention};
@@ -268,19 +269,12 @@ pub(crate) fn candidates(
     Ok(found)
 }
 
-/// Whether two places begin at the same byte.
-pub(crate) fn begins_at(left: Span, right: Span) -> bool
-    ensures { result ≡ spec.begins_at left right }
-{
-    left.file.0 == right.file.0 && left.from == right.from
-}
-
 /// The member that is named at a place.
 pub(crate) fn mention_at(mentions: &[Mention], span: Span) -> Option<Mention>
-    ensures { result ≡ find (λ m. spec.begins_at m.span span) mentions.now }
+    ensures { result ≡ find (λ m. asked.same_span m.span span) mentions.now }
 {
     for mention in mentions {
-        if begins_at(mention.span, span) {
+        if same_span(mention.span, span) {
             return Some(*mention);
         }
     }

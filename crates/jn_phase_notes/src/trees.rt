@@ -12,7 +12,7 @@ ghost use Rattle.jn_phase_notes.specs.Others as others;
 ghost use Rattle.jn_phase_notes.specs.Stops.{one_note};
 ghost use Rattle.jn_phase_notes.specs.Trees as spec;
 
-use crate::candidates::{begins_at, mention_at};
+use crate::candidates::mention_at;
 use crate::members::{clashing, hidden, lacking};
 use crate::mentioning::Mention;
 use crate::naming::mentions_of;
@@ -198,7 +198,7 @@ fn first_local(seconds: &[Second], span: Span) -> Option<Identifier>
     ensures { result ≡ spec.first_local seconds.now span }
 {
     for second in seconds {
-        if begins_at(second.span, span) {
+        if same_span(second.span, span) {
             return Some(second.first);
         }
     }

@@ -18,6 +18,7 @@ class OtherBodies {
     new OtherPlan();
     new OtherBodies(1, 2);
     o.none();
+    int k = area(1, 2)[0];
   }
 }
 class OtherCircle extends OtherShape { void draw() { } }
