@@ -14,7 +14,7 @@ second false true c d e f h = refl
 second a false c d e f h = absurd (clash h)
   where
     clash : false ≡ true → ⊥
-    clash e = subst (λ (x : Bool). cond x ⊥ Unit {0}) e tt
+    clash e = cc
 
 -- so that the slot is written
 kept : (infers : Bool) (n : Notes) (q : Qualifier) → is_written n ≡ true → slot_of infers n q ≡ record { start = q; inferred = false }
