@@ -49,7 +49,7 @@ no_stop files row true other = absurd (never other)
 
 refused_notes : (b : Bool) (infer : Infer) (files : List SourceFile) (row : Row) → is_syntax row.code ≡ false → NoneParsed files → AreShownNotes AreNotes b infer files (Refused (row ∷ [])) (refused_noted b)
 refused_notes false infer files row other none = refl
-refused_notes true infer files row other none = inl (record { unparsed = none; notes = stop_notes None ∷ []; are = (no_stop files row (is_syntax row.code) other, tt); places = refl })
+refused_notes true infer files row other none = record { notes = stop_notes None ∷ []; are = inl (record { unparsed = none; are = (no_stop files row (is_syntax row.code) other, tt) }); places = refl }
 
 refused_shown : (b : Bool) (show : List ShownRow → Option Verdict → List ℕ) (files : List SourceFile) (row : Row) → shown_noted show files (Refused (row ∷ [])) [] ≡ shown_noted show files (Refused (row ∷ [])) (refused_noted b)
 refused_shown false show files row = refl
