@@ -8,7 +8,7 @@ use Rattle.jn_outside.specs.Files.{Holding}
 use Rattle.jn_lsp_frames.specs.declared.frame.Frame.{Frame}
 use Rattle.jn_lsp_text.specs.declared.message.Change.{Change}
 use Rattle.jn_lsp_text.specs.declared.message.Message.{Message}
-use Rattle.jn_lsp_text.specs.declared.message.Message.TheVariants.{Initialize, Initialized, DidOpen, DidChange, DidSave, DidClose, WatchedFiles, CodeAction, InlayHint, Shutdown, Exit, Ignored, Unknown, BadDocument, BadParams, NoMessage, NoJson, BadHeader, TooLarge}
+use Rattle.jn_lsp_text.specs.declared.message.Message.TheVariants.{Initialize, Initialized, DidOpen, DidChange, DidSave, DidClose, WatchedFiles, CodeAction, InlayHint, Hover, Shutdown, Exit, Ignored, Unknown, BadDocument, BadParams, NoMessage, NoJson, BadHeader, TooLarge}
 use Rattle.jn_lsp_text.specs.declared.reply.Reply.{Reply}
 use Rattle.jn_lsp_text.specs.declared.reply.Reply.TheVariants.{Show}
 use Rattle.jn_lsp.specs.declared.event.Event.{Event}
@@ -19,7 +19,7 @@ use Rattle.nullcheck_lsp_top.specs.declared.client.Client.{Client}
 use Rattle.nullcheck_lsp_top.specs.Hearing.{AnsweredOnce, Hears, HearsAll, IsMessageOf, Looks, LooksWhere, foreign, looks}
 use Rattle.nullcheck_lsp_top.specs.Looking.{Outside, new_client}
 use Rattle.nullcheck_lsp_top.specs.declared.client.Root.{Root}
-use Rattle.nullcheck_lsp_top.specs.Placing.{or_ignored, placed, placed_name, says}
+use Rattle.nullcheck_lsp_top.specs.Placing.{asks, is_asked, notices, or_ignored, placed, placed_name, says}
 use Rattle.nullcheck_lsp_top.specs.Reading.{is_among, shows}
 
 -- what is shown answers nothing
@@ -65,7 +65,7 @@ doubted_as None name = (refl, refl)
 doubted_as (Some place) name = (refl, refl)
 
 placed_asks : (root : Root) (message : Message) → AsksAs (placed root message) message
-placed_asks root (Initialize id folder infer files exclude) = (refl, refl)
+placed_asks root (Initialize id folders infer files exclude markup) = (refl, refl)
 placed_asks root Initialized = (refl, refl)
 placed_asks root (DidOpen name version text) = opened_as (placed_name root name) name version text
 placed_asks root (DidChange name version changes) = changed_as (placed_name root name) name version changes
@@ -74,6 +74,7 @@ placed_asks root (DidClose name) = closed_as (placed_name root name) name
 placed_asks root WatchedFiles = (refl, refl)
 placed_asks root (CodeAction id name range) = (refl, refl)
 placed_asks root (InlayHint id name range) = (refl, refl)
+placed_asks root (Hover id name position) = (refl, refl)
 placed_asks root (Shutdown id) = (refl, refl)
 placed_asks root Exit = (refl, refl)
 placed_asks root Ignored = (refl, refl)
@@ -132,22 +133,29 @@ module _ (held : Option Holding) (before last : ServerOf) (mid after : Client) (
   by_files false old new (same, is, none) = plain is none
   by_files true old new l = looked old new l
 
--- what is said of documents that aren't of the workspace answers nothing
+-- what is sent before an answer answers nothing
+asks_unasked : (asked : Bool) → ids_answered (asks asked) ≡ []
+asks_unasked false = refl
+asks_unasked true = refl
+
 says_unasked : (said : Bool) (foreign_ : Option (List ℕ)) → ids_answered (says said foreign_) ≡ []
 says_unasked said None = refl
 says_unasked true (Some name) = refl
 says_unasked false (Some name) = refl
 
-served_said : (before last : ServerOf) (messages : List Message) (said : Bool) (foreign_ : Option (List ℕ)) (one rest : List Reply) → Served before last messages (one ++ rest) → Served before last messages ((says said foreign_ ++ one) ++ rest)
-served_said before last messages said foreign_ one rest s = record {
+both_unasked : (asked said : Bool) (foreign_ : Option (List ℕ)) → ids_answered (asks asked ++ says said foreign_) ≡ []
+both_unasked asked said foreign_ = both_answered (asks asked) (says said foreign_) ∙ ap (λ ids. ids ++ ids_answered (says said foreign_)) (asks_unasked asked) ∙ says_unasked said foreign_
+
+served_behind : (before last : ServerOf) (messages : List Message) (sent one rest : List Reply) → ids_answered sent ≡ [] → Served before last messages (one ++ rest) → Served before last messages ((sent ++ one) ++ rest)
+served_behind before last messages sent one rest unasked s = record {
   events = s.events;
   said = s.said;
   serves = s.serves;
   asked = s.asked;
   answered =
-      ap (λ (rs : List Reply). ids_answered rs) (append_assoc (says said foreign_) one rest)
-      ∙ both_answered (says said foreign_) (one ++ rest)
-      ∙ ap (λ ids. ids ++ ids_answered (one ++ rest)) (says_unasked said foreign_)
+      ap (λ (rs : List Reply). ids_answered rs) (append_assoc sent one rest)
+      ∙ both_answered sent (one ++ rest)
+      ∙ ap (λ ids. ids ++ ids_answered (one ++ rest)) unasked
       ∙ s.answered;
 }
 
@@ -162,7 +170,7 @@ heard_frame held old new before client after frame frames message replies first 
   messages = message ∷ others.messages;
   are = (is, others.are);
   served = subst (λ (rs : List Reply). Served before.server after.server (message ∷ others.messages) rs) (sym (all ∙ ap (λ (rs : List Reply). rs ++ rest) h.all))
-      (served_said before.server after.server (message ∷ others.messages) before.said (foreign before message) (h.first ++ h.more) rest
+      (served_behind before.server after.server (message ∷ others.messages) (notices before.server.phase before.root before.said message) (h.first ++ h.more) rest (both_unasked (is_asked before.server.phase before.root message) before.said (foreign before message))
       (by_files held before.server after.server h.mid client (placed before.root message) message (placed_asks before.root message) others.messages h.first h.more rest h.takes others.served (looks before.server.phase (placed before.root message)) h.out new h.behind));
 }
 

@@ -14,7 +14,7 @@ use Rattle.nullcheck_lsp_top.specs.declared.client.Client.{Client}
 use Rattle.nullcheck_lsp_top.specs.declared.client.Root.{Root}
 use Rattle.nullcheck_lsp_top.specs.Hearing.{Hears, HearsAll, IsMessageOf, Looks, LooksWhere, foreign, framed, looks, written}
 use Rattle.nullcheck_lsp_top.specs.Looking.{IsFound, Outside, Traces, root_or, told_root}
-use Rattle.nullcheck_lsp_top.specs.Placing.{placed, says}
+use Rattle.nullcheck_lsp_top.specs.Placing.{notices, placed}
 use Rattle.nullcheck_lsp_top.specs.Reading.{shows}
 
 pub framed_both : (address : Option (List ℕ)) (xs ys : List Reply) → framed address (xs ++ ys) ≡ framed address xs ++ framed address ys
@@ -33,8 +33,8 @@ looks_from held old new before after files warnings told news replies found says
 }
 
 -- a message was taken, as far as it is about the workspace
-module _ (held : Option Holding) (old out new : Outside) (told : Option Root) (before start mid after : Client) (message taken : Message) (notices first more replies : List Reply) where
-  pub hears_from : Traces (told_root before.server.phase message) told old out → start.server ≡ before.server → start.root ≡ root_or told before.root → start.shown ≡ before.shown → start.said ≡ (before.said || is_some (foreign before message)) → taken ≡ placed before.root message → Takes start.server (MessageEvent taken) first mid.server → mid.root ≡ start.root → mid.shown ≡ start.shown → mid.said ≡ start.said → LooksWhere (looks before.server.phase taken) held out new mid after more → notices ≡ says before.said (foreign before message) → replies ≡ notices ++ (first ++ more) → Hears held old new before message replies after
+module _ (held : Option Holding) (old out new : Outside) (told : Option Root) (before start mid after : Client) (message taken : Message) (sent first more replies : List Reply) where
+  pub hears_from : Traces (told_root before.server.phase message) told old out → start.server ≡ before.server → start.root ≡ root_or told before.root → start.shown ≡ before.shown → start.said ≡ (before.said || is_some (foreign before message)) → taken ≡ placed before.root message → Takes start.server (MessageEvent taken) first mid.server → mid.root ≡ start.root → mid.shown ≡ start.shown → mid.said ≡ start.said → LooksWhere (looks before.server.phase taken) held out new mid after more → sent ≡ notices before.server.phase before.root before.said message → replies ≡ sent ++ (first ++ more) → Hears held old new before message replies after
   hears_from traces server root shown said is takes same_root same_shown same_said behind noticed all = record {
     first = first;
     more = more;

@@ -1,7 +1,6 @@
 pub mod Answering
 pub mod Reading
-pub mod Locating
-pub mod Homing
+pub mod Searching
 pub mod Hearing
 pub mod Looping
 pub mod Ending

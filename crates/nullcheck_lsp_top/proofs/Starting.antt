@@ -4,18 +4,16 @@ use Rattle.std.proofs.lemmas.List.{drop_more, take-append-drop}
 use Rattle.jn_outside.specs.declared.given.Given.{Given}
 use Rattle.jn_outside.specs.Files.{Holding}
 use Rattle.jn_outside.specs.Gave.{GivesLittle}
-use Rattle.jn_folder.specs.declared.listed.Listed.{Listed}
-use Rattle.jn_folder.proofs.Stopping.{walk_none}
 use Rattle.jn_front.specs.declared.source.SourceFile.{SourceFile}
 use Rattle.jn_front.specs.Files.{file_limit}
 use Rattle.jn_lsp_text.specs.declared.message.Message.{Message}
 use Rattle.nullcheck_lsp_top.specs.declared.client.Client.{Client}
 use Rattle.nullcheck_lsp_top.specs.declared.client.Root.{Root}
 use Rattle.nullcheck_lsp_top.specs.Hearing.{StartsBy, looks}
-use Rattle.nullcheck_lsp_top.specs.Looking.{AreNamedBy, BeginsInFolder, BeginsNamed, Outside, Starts, StartsWhere, Traces, outside, root_or, told_root}
+use Rattle.nullcheck_lsp_top.specs.Looking.{AreNamedBy, BeginsNamed, Listing, Outside, Starts, StartsWhere, Traces, listing_of, root_or, told_root}
 use Rattle.nullcheck_lsp_top.specs.Placing.{placed}
 use Rattle.nullcheck_lsp_top.specs.Reading.{AreRead, GivesNext, ReadsFirst, Source, is_many, names_taken, source}
-use Rattle.nullcheck_lsp_top.proofs.Locating.{named_so}
+use Rattle.nullcheck_lsp_top.proofs.Searching.{begins_none, traced_none}
 
 -- ---- files
 
@@ -68,64 +66,45 @@ reads_part held names i name old mid files lost new lt item read little = record
 
 -- ---- folders
 
-begins_none : (root : Root) (files : List (List ℕ)) (old : Outside) → BeginsNamed root files old old
-begins_none root [] old = in_folder root.folder
-  where
-    in_folder : (folder : Option (List ℕ)) → BeginsInFolder root.exclude folder old old
-    in_folder None = refl
-    in_folder (Some path) = walk_none root.exclude path old.lists old.told old.told refl
-begins_none root (file ∷ files) old = refl
-
-pub begins_so : (root : Root) (files : List (List ℕ)) (told then_ : List Listed) (lists now : ℕ) (gave left right : List Given) (reads one other : ℕ) → BeginsNamed root files (outside told lists gave reads) (outside then_ now gave reads) → BeginsNamed root files (outside told lists left one) (outside then_ now right other)
-begins_so root [] told then_ lists now gave left right reads one other is = in_folder root.folder is
-  where
-    in_folder : (folder : Option (List ℕ)) → BeginsInFolder root.exclude folder (outside told lists gave reads) (outside then_ now gave reads) → BeginsInFolder root.exclude folder (outside told lists left one) (outside then_ now right other)
-    in_folder None is = is
-    in_folder (Some path) is = is
-begins_so root (file ∷ files) told then_ lists now gave left right reads one other is = is
+named_none : (root : Root) (files : List (List ℕ)) (old : Listing) → BeginsNamed root files old old
+named_none root [] old = begins_none root.exclude root.folders old
+named_none root (file ∷ files) old = refl
 
 -- ---- both
 
 pub starts_none : (held : Option Holding) (root : Root) (old : Outside) → Starts held root old old
-starts_none held root old = inl (begins_none root root.files old, refl)
+starts_none held root old = inl (named_none root root.files (listing_of old), refl)
 
 pub where_none : (wanted : Bool) (held : Option Holding) (root : Root) (old : Outside) → StartsWhere wanted held root old old
 where_none false held root old = refl
 where_none true held root old = starts_none held root old
 
--- folders were asked, and no file
-pub starts_folders : (held : Option Holding) (root : Root) (told then_ : List Listed) (lists now : ℕ) (gave : List Given) (reads : ℕ) → BeginsNamed root root.files (outside told lists gave reads) (outside then_ now gave reads) → Starts held root (outside told lists gave reads) (outside then_ now gave reads)
-starts_folders held root told then_ lists now gave reads begins = inl (begins, refl)
-
 -- names were found, and files were read
-pub starts_files : (held : Option Holding) (root : Root) (told then_ : List Listed) (lists now : ℕ) (gave right : List Given) (reads other : ℕ) (names missed unnamed : List (List ℕ)) (many : Bool) → AreNamedBy root root.files (outside told lists gave reads) (outside then_ now gave reads) names missed unnamed → many ≡ is_many names → ReadsFirst held (names_taken many names) (source gave reads) right → Starts held root (outside told lists gave reads) (outside then_ now right other)
-starts_files held root told then_ lists now gave right reads other names missed unnamed many named is read = inr (record {
+pub starts_files : (held : Option Holding) (root : Root) (old new : Outside) (names missed unnamed : List (List ℕ)) (many : Bool) → AreNamedBy root root.files (listing_of old) (listing_of new) names missed unnamed → many ≡ is_many names → ReadsFirst held (names_taken many names) (source old.gave old.reads) new.gave → Starts held root old new
+starts_files held root old new names missed unnamed many named is read = inr (record {
   names = names;
   missed = missed;
   unnamed = unnamed;
-  named = named_so root root.files told then_ lists now gave gave right reads reads other names missed unnamed named;
-  read = subst (λ b. ReadsFirst held (names_taken b names) (source gave reads) right) is read;
+  named = named;
+  read = subst (λ b. ReadsFirst held (names_taken b names) (source old.gave old.reads) new.gave) is read;
 })
 
 -- ---- a message
 
 pub starts_from : (held : Option Holding) (old out new : Outside) (before : Client) (message taken : Message) (wanted : Bool) (root : Root) (told : Option Root) → Traces (told_root before.server.phase message) told old out → wanted ≡ looks before.server.phase taken → taken ≡ placed before.root message → root ≡ root_or told before.root → StartsWhere wanted held root out new → StartsBy held old new before message
-starts_from held old out new before message taken wanted root told traces e f g starts = (
+starts_from held old out new before message taken wanted root told traces e f g starts = inl (
   told,
   out,
-  inl traces,
+  traces,
   subst (λ (m : Message). StartsWhere (looks before.server.phase m) held (root_or told before.root) out new) f
       (subst (λ (r : Root). StartsWhere (looks before.server.phase taken) held r out new) g
       (subst (λ b. StartsWhere b held root out new) e starts)),
 )
 
--- the folder was asked where it really is, and nothing else
+-- the folders were asked where they really are, and nothing else
 pub starts_traced : (held : Option Holding) (old out : Outside) (before : Client) (message : Message) (told : Option Root) → Traces (told_root before.server.phase message) told old out → StartsBy held old out before message
-starts_traced held old out before message told traces = (told, out, inl traces, where_none (looks before.server.phase (placed before.root message)) held (root_or told before.root) out)
+starts_traced held old out before message told traces = inl (told, out, traces, where_none (looks before.server.phase (placed before.root message)) held (root_or told before.root) out)
 
+-- nothing was asked
 pub starts_not : (held : Option Holding) (old : Outside) (before : Client) (message : Message) → StartsBy held old old before message
-starts_not held old before message = (None, old, inr refl, where_none (looks before.server.phase (placed before.root message)) held before.root old)
-
--- it was asked in vain
-pub starts_still : (held : Option Holding) (old new : Outside) (before : Client) (message : Message) → new ≡ old → StartsBy held old new before message
-starts_still held old new before message same = subst (λ (o : Outside). StartsBy held old o before message) (sym same) (starts_not held old before message)
+starts_not held old before message = inr (traced_none (told_root before.server.phase message) (listing_of old), refl, refl)

@@ -15,7 +15,7 @@ use Rattle.jn_lsp.specs.Serving.{ArePublishedLast, IsUpToDate, ServerOf, Serves,
 use Rattle.nullcheck_lsp_top.specs.declared.client.Client.{Client}
 use Rattle.nullcheck_lsp_top.specs.Hearing.{Hears, HearsAll, LooksWhere, foreign, looks}
 use Rattle.nullcheck_lsp_top.specs.Looking.{Outside, new_client}
-use Rattle.nullcheck_lsp_top.specs.Placing.{placed, says}
+use Rattle.nullcheck_lsp_top.specs.Placing.{asks, is_asked, notices, placed, says}
 use Rattle.nullcheck_lsp_top.specs.Reading.{is_among, shows}
 
 -- ---- what was published last
@@ -88,25 +88,34 @@ looked true held old new before after replies l =
     is_taken before.server after.server replies (shows before.shown after.shown ++ l.news) l.all
     (took_shown before.server after.server (filter (λ words. not (is_among before.shown words)) after.shown) l.news (took_one before.server after.server (Folder l.files) l.news l.takes))
 
--- what is said of documents that aren't of the workspace publishes nothing
+-- what is sent before an answer publishes nothing
+asks_silent : (asked : Bool) (name : List ℕ) (before : List Diagnostic) → last_published name before (asks asked) ≡ before
+asks_silent false name before = refl
+asks_silent true name before = refl
+
 says_silent : (said : Bool) (foreign_ : Option (List ℕ)) (name : List ℕ) (before : List Diagnostic) → last_published name before (says said foreign_) ≡ before
 says_silent said None name before = refl
 says_silent true (Some other) name before = refl
 says_silent false (Some other) name before = refl
 
-took_said : (before after : ServerOf) (said : Bool) (foreign_ : Option (List ℕ)) (replies : List Reply) → Took before replies after → Took before (says said foreign_ ++ replies) after
-took_said before after said foreign_ replies p = record {
+both_silent : (asked said : Bool) (foreign_ : Option (List ℕ)) (name : List ℕ) (before : List Diagnostic) → last_published name before (asks asked ++ says said foreign_) ≡ before
+both_silent asked said foreign_ name before =
+    last_both name before (asks asked) (says said foreign_) ∙ ap (λ (d : List Diagnostic). last_published name d (says said foreign_)) (asks_silent asked name before) ∙ says_silent said foreign_ name before
+
+took_behind : (before after : ServerOf) (sent replies : List Reply) → ((name : List ℕ) (d : List Diagnostic) → last_published name d sent ≡ d) → Took before replies after → Took before (sent ++ replies) after
+took_behind before after sent replies silent p = record {
   events = p.events;
   said = p.said;
   serves = p.serves;
-  same = (λ name d. last_both name d (says said foreign_) replies ∙ ap (λ (e : List Diagnostic). last_published name e replies) (says_silent said foreign_ name d) ∙ p.same name d);
+  same = (λ name d. last_both name d sent replies ∙ ap (λ (e : List Diagnostic). last_published name e replies) (silent name d) ∙ p.same name d);
 }
 
 heard_one : (held : Option Holding) (old new : Outside) (before after : Client) (message : Message) (replies : List Reply) → Hears held old new before message replies after → Took before.server replies after.server
 heard_one held old new before after message replies h =
     let taken = placed before.root message in
-    is_taken before.server after.server replies (says before.said (foreign before message) ++ (h.first ++ h.more)) h.all
-    (took_said before.server after.server before.said (foreign before message) (h.first ++ h.more)
+    let sent = notices before.server.phase before.root before.said message in
+    is_taken before.server after.server replies (sent ++ (h.first ++ h.more)) h.all
+    (took_behind before.server after.server sent (h.first ++ h.more) (both_silent (is_asked before.server.phase before.root message) before.said (foreign before message))
     (took_both before.server h.mid.server after.server h.first h.more (took_one before.server h.mid.server (MessageEvent taken) h.first h.takes) (looked (looks before.server.phase taken) held h.out new h.mid after h.more h.behind)))
 
 heard_all : (held : Option Holding) (old new : Outside) (before after : Client) (frames : List Frame) (replies : List Reply) → HearsAll held old new before frames replies after → Took before.server replies after.server

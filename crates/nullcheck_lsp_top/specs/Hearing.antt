@@ -19,8 +19,8 @@ use Rattle.jn_lsp.specs.Requests.{ids_answered, ids_asked}
 use Rattle.jn_lsp.specs.Serving.{Takes, wants_folder}
 use Rattle.nullcheck_lsp_top.specs.declared.client.Client.{Client}
 use Rattle.nullcheck_lsp_top.specs.declared.client.Root.{Root}
-use Rattle.nullcheck_lsp_top.specs.Looking.{IsFound, Outside, StartsWhere, Traces, root_or, told_root}
-use Rattle.nullcheck_lsp_top.specs.Placing.{foreign_in, placed, says}
+use Rattle.nullcheck_lsp_top.specs.Looking.{IsFound, Outside, StartsWhere, Traces, TracesFirst, root_or, told_root}
+use Rattle.nullcheck_lsp_top.specs.Placing.{foreign_in, notices, placed}
 use Rattle.nullcheck_lsp_top.specs.Reading.{shows}
 
 -- ---- messages
@@ -58,7 +58,7 @@ LooksWhere true held old new before after replies = Looks held old new before af
 abbrev pub foreign : Client → Message → Option (List ℕ)
 foreign client message = foreign_in client.server.phase client.root message
 
--- where the message says where the files are, the folder is asked where it really is, and that is kept; the server takes the message as far as
+-- where the message says where the files are, the folders are asked where they really are, and that is kept; the server takes the message as far as
 -- it is about the workspace, and where files are to be read after it, those
 pub record Hears (held : Option Holding) (old new : Outside) (before : Client) (message : Message) (replies : List Reply) (after : Client) : Type 0 where
   pub first : List Reply
@@ -72,17 +72,14 @@ pub record Hears (held : Option Holding) (old new : Outside) (before : Client) (
   pub shown : mid.shown ≡ before.shown
   pub said : mid.said ≡ (before.said || is_some (foreign before message))
   pub behind : LooksWhere (looks before.server.phase (placed before.root message)) held out new mid after more
-  pub all : replies ≡ says before.said (foreign before message) ++ (first ++ more)
-
--- the folder was asked where it really is, or wasn't yet
-abbrev pub TracesFirst : Option Root → Option Root → Outside → Outside → Type 0
-TracesFirst root told old out = Traces root told old out ⊎ (out ≡ old)
+  pub all : replies ≡ notices before.server.phase before.root before.said message ++ (first ++ more)
 
 -- what was asked of folders and files is what the message asks for, or the first of that
 abbrev pub StartsBy : Option Holding → Outside → Outside → Client → Message → Type 0
 StartsBy held old new before message =
-    (told : Option Root) × (out : Outside) × TracesFirst (told_root before.server.phase message) told old out
-    × StartsWhere (looks before.server.phase (placed before.root message)) held (root_or told before.root) out new
+    ((told : Option Root) × (out : Outside) × Traces (told_root before.server.phase message) told old out
+    × StartsWhere (looks before.server.phase (placed before.root message)) held (root_or told before.root) out new)
+    ⊎ TracesFirst (told_root before.server.phase message) old new
 
 -- ---- frames
 

@@ -1,35 +1,44 @@
 -- Where a workspace's files are, and what is found there.
-use Rattle.std.specs.Prelude.{ℕ, ◌≡◌, ◌⊎◌, Bool, false, true, List, [], ◌∷◌, Option, Some, None, length, option_map}
+use Rattle.std.specs.Prelude.{ℕ, ◌≡◌, ◌⊎◌, ◌++◌, Bool, false, true, List, [], ◌∷◌, Option, Some, None, length, map, take}
 use Rattle.jn_base.specs.declared.infer.Infer.{Infer}
 use Rattle.jn_outside.specs.Files.{Holding}
 use Rattle.jn_outside.specs.declared.given.Given.{Given}
 use Rattle.jn_folder.specs.declared.listed.Listed.{Listed}
 use Rattle.jn_folder.specs.Listing.{with_real}
-use Rattle.jn_folder.specs.Plain.{plain}
-use Rattle.jn_folder.specs.Walking.{BeginsWalk, Counts, Walks, telling}
+use Rattle.jn_folder.specs.Walking.{BeginsWalk, Counts, IsOrderOf, Walks, telling}
 use Rattle.jn_front.specs.declared.source.SourceFile.{SourceFile}
+use Rattle.jn_lsp_text.specs.declared.folders.Folders.{Folders}
 use Rattle.jn_lsp_text.specs.declared.message.Message.{Message}
-use Rattle.jn_lsp_text.specs.declared.message.Message.TheVariants.{Initialize, Initialized, DidOpen, DidChange, DidSave, DidClose, WatchedFiles, CodeAction, InlayHint, Shutdown, Exit, Ignored, Unknown, BadDocument, BadParams, NoMessage, NoJson, BadHeader, TooLarge}
+use Rattle.jn_lsp_text.specs.declared.message.Message.TheVariants.{Initialize, Initialized, DidOpen, DidChange, DidSave, DidClose, WatchedFiles, CodeAction, InlayHint, Hover, Shutdown, Exit, Ignored, Unknown, BadDocument, BadParams, NoMessage, NoJson, BadHeader, TooLarge}
 use Rattle.jn_lsp.specs.declared.phase.Phase.{Phase}
 use Rattle.jn_lsp.specs.declared.phase.Phase.TheVariants.{Waiting, Serving, ShutDown, Exited}
 use Rattle.jn_lsp.specs.Serving.{new_server}
 use Rattle.nullcheck_lsp_top.specs.declared.client.Client.{Client}
+use Rattle.nullcheck_lsp_top.specs.declared.client.Home.{Home}
 use Rattle.nullcheck_lsp_top.specs.declared.client.Root.{Root}
-use Rattle.nullcheck_lsp_top.specs.Placing.{named_paths}
+use Rattle.nullcheck_lsp_top.specs.Placing.{files_named, named_paths}
 use Rattle.nullcheck_lsp_top.specs.Reading.{AreTaken, ReadsFirst, is_many, names_taken, source, warnings_of}
 
 -- ---- where files are
 
-abbrev pub root_of : Option (List ℕ) → List (List ℕ) → List (List ℕ) → Root
-root_of folder files exclude = record { folder = option_map plain folder; real = None; files = files; exclude = exclude }
+-- a folder that wasn't asked yet where it really is
+abbrev pub unasked : List ℕ → Home
+unasked path = record { path = path; real = None }
+
+-- the plain paths of the folders, each once, and what the settings say
+abbrev pub root_of : Folders → List (List ℕ) → List (List ℕ) → Root
+root_of folders files exclude = record { folders = map unasked (named_paths None folders.paths); watched = folders.watched; files = files; exclude = exclude }
+
+abbrev pub no_folders : Folders
+no_folders = record { paths = []; watched = false }
 
 -- a client that didn't speak yet, of a server that infers these members where it chooses none
 abbrev pub new_client : Infer → Client
-new_client infer = record { server = new_server infer; root = root_of None [] []; shown = []; said = false }
+new_client infer = record { server = new_server infer; root = root_of no_folders [] []; shown = []; said = false }
 
 -- `initialize` says where the files are
 abbrev pub root_in : Message → Option Root
-root_in (Initialize id folder infer files exclude) = Some (root_of folder files exclude)
+root_in (Initialize id folders infer files exclude markup) = Some (root_of folders files exclude)
 root_in Initialized = None
 root_in (DidOpen name version text) = None
 root_in (DidChange name version changes) = None
@@ -38,6 +47,7 @@ root_in (DidClose name) = None
 root_in WatchedFiles = None
 root_in (CodeAction id name range) = None
 root_in (InlayHint id name range) = None
+root_in (Hover id name position) = None
 root_in (Shutdown id) = None
 root_in Exit = None
 root_in Ignored = None
@@ -72,32 +82,91 @@ pub record Outside : Type 0 where
 abbrev pub outside : List Listed → ℕ → List Given → ℕ → Outside
 outside told lists gave reads = record { told = told; lists = lists; gave = gave; reads = reads }
 
--- ---- where the folder really is
+-- what folders tell: what they listed, and the count of their faults
+pub record Listing : Type 0 where
+  pub told : List Listed
+  pub faults : ℕ
 
-abbrev pub rooted : Option (List ℕ) → Root → Root
-rooted real root = record { folder = root.folder; real = real; files = root.files; exclude = root.exclude }
+abbrev pub listing : List Listed → ℕ → Listing
+listing told faults = record { told = told; faults = faults }
 
--- the folder was asked where it really is, where one is named, and said this
-abbrev pub IsReal : Option (List ℕ) → Option (List ℕ) → Outside → Outside → Type 0
-IsReal None real old new = (real ≡ None) × (new ≡ old)
-IsReal (Some path) real old new = new ≡ outside (with_real old.told path real) old.lists old.gave old.reads
+abbrev pub listing_of : Outside → Listing
+listing_of out = listing out.told out.lists
 
--- that is kept with what a message says
+-- nothing was asked of files
+abbrev pub ReadsNone : Outside → Outside → Type 0
+ReadsNone old new = (new.gave ≡ old.gave) × (new.reads ≡ old.reads)
+
+-- ---- where folders really are
+
+abbrev pub home_at : List ℕ → Option (List ℕ) → Home
+home_at path real = record { path = path; real = real }
+
+-- each of these folders was asked where it really is, in their order, and that is kept with it
+abbrev pub AreReal : List Home → List Home → Listing → Listing → Type 0
+AreReal [] after old new = (after ≡ []) × (new ≡ old)
+AreReal (home ∷ homes) after old new =
+    (real : Option (List ℕ)) × (others : List Home) × (after ≡ home_at home.path real ∷ others)
+    × AreReal homes others (listing (with_real old.told home.path real) old.faults) new
+
+-- so many of them were
+abbrev pub AreRealFirst : List Home → Listing → Listing → Type 0
+AreRealFirst homes old new = (asked : ℕ) × (after : List Home) × AreReal (take asked homes) after old new
+
+abbrev pub rooted : List Home → Root → Root
+rooted homes root = record { folders = homes; watched = root.watched; files = root.files; exclude = root.exclude }
+
+-- where it is said where the files are, the folders were asked, and that is kept
+abbrev pub AreTraced : Option Root → Option Root → Listing → Listing → Type 0
+AreTraced None after old new = (after ≡ None) × (new ≡ old)
+AreTraced (Some root) after old new = (homes : List Home) × (after ≡ Some (rooted homes root)) × AreReal root.folders homes old new
+
+abbrev pub AreTracedFirst : Option Root → Listing → Listing → Type 0
+AreTracedFirst None old new = new ≡ old
+AreTracedFirst (Some root) old new = AreRealFirst root.folders old new
+
+-- and no file was
 abbrev pub Traces : Option Root → Option Root → Outside → Outside → Type 0
-Traces None after old new = (after ≡ None) × (new ≡ old)
-Traces (Some root) after old new = (real : Option (List ℕ)) × (after ≡ Some (rooted real root)) × IsReal root.folder real old new
+Traces root after old new = AreTraced root after (listing_of old) (listing_of new) × ReadsNone old new
+
+abbrev pub TracesFirst : Option Root → Outside → Outside → Type 0
+TracesFirst root old new = AreTracedFirst root (listing_of old) (listing_of new) × ReadsNone old new
 
 -- ---- names
 
--- without settings the names are those of the Java files below the folder
-abbrev pub AreInFolder : List (List ℕ) → Option (List ℕ) → Outside → Outside → List (List ℕ) → List (List ℕ) → List (List ℕ) → Type 0
-AreInFolder exclude None old new names missed unnamed = (names ≡ []) × (missed ≡ []) × (unnamed ≡ []) × (new.told ≡ old.told) × (new.lists ≡ old.lists)
-AreInFolder exclude (Some folder) old new names missed unnamed = Walks exclude folder (telling old.told new.told old.lists new.lists) names missed unnamed × Counts missed old.lists new.lists
+-- what was found: files, folders that couldn't be listed, and folders in which a name is no text
+pub record Finds : Type 0 where
+  pub names : List (List ℕ)
+  pub missed : List (List ℕ)
+  pub unnamed : List (List ℕ)
 
-abbrev pub AreNamedBy : Root → List (List ℕ) → Outside → Outside → List (List ℕ) → List (List ℕ) → List (List ℕ) → Type 0
-AreNamedBy root [] old new names missed unnamed = AreInFolder root.exclude root.folder old new names missed unnamed
-AreNamedBy root (file ∷ files) old new names missed unnamed =
-    (names ≡ named_paths root.folder (file ∷ files)) × (missed ≡ []) × (unnamed ≡ []) × (new.told ≡ old.told) × (new.lists ≡ old.lists)
+abbrev pub finds : List (List ℕ) → List (List ℕ) → List (List ℕ) → Finds
+finds names missed unnamed = record { names = names; missed = missed; unnamed = unnamed }
+
+abbrev pub beside : Finds → Finds → Finds
+beside one other = finds (one.names ++ other.names) (one.missed ++ other.missed) (one.unnamed ++ other.unnamed)
+
+-- the Java files below a folder
+abbrev pub AreBelow : List (List ℕ) → List ℕ → Listing → Listing → Finds → Type 0
+AreBelow exclude path old new found = Walks exclude path (telling old.told new.told old.faults new.faults) found.names found.missed found.unnamed × Counts found.missed old.faults new.faults
+
+-- they are put after what was found before
+abbrev pub IsBesideBelow : List (List ℕ) → List ℕ → Listing → Listing → Finds → Finds → Type 0
+IsBesideBelow exclude path old new before after = (more : Finds) × AreBelow exclude path old new more × (after ≡ beside before more)
+
+-- those below each of these folders, one after the other
+abbrev pub AreInFolders : List (List ℕ) → List Home → Listing → Listing → Finds → Type 0
+AreInFolders exclude [] old new found = (found ≡ finds [] [] []) × (new ≡ old)
+AreInFolders exclude (home ∷ homes) old new found =
+    (mid : Listing) × (first : Finds) × (others : Finds) × AreBelow exclude home.path old mid first × AreInFolders exclude homes mid new others × (found ≡ beside first others)
+
+-- without settings the names are those of the Java files of all folders, each once, in the order of their bytes
+abbrev pub AreOfFolders : Root → Listing → Listing → List (List ℕ) → List (List ℕ) → List (List ℕ) → Type 0
+AreOfFolders root old new names missed unnamed = (all : List (List ℕ)) × AreInFolders root.exclude root.folders old new (finds all missed unnamed) × IsOrderOf all names
+
+abbrev pub AreNamedBy : Root → List (List ℕ) → Listing → Listing → List (List ℕ) → List (List ℕ) → List (List ℕ) → Type 0
+AreNamedBy root [] old new names missed unnamed = AreOfFolders root old new names missed unnamed
+AreNamedBy root (file ∷ files) old new names missed unnamed = (names ≡ files_named root) × (missed ≡ []) × (unnamed ≡ []) × (new ≡ old)
 
 -- ---- files
 
@@ -107,20 +176,22 @@ pub record IsFound (held : Option Holding) (root : Root) (old new : Outside) (fi
   pub missed : List (List ℕ)
   pub unnamed : List (List ℕ)
   pub lost : List (List ℕ)
-  pub named : AreNamedBy root root.files old new names missed unnamed
+  pub named : AreNamedBy root root.files (listing_of old) (listing_of new) names missed unnamed
   pub read : AreTaken held (is_many names) names (source old.gave old.reads) (source new.gave new.reads) files lost
   pub warned : warnings ≡ warnings_of (length names) missed unnamed lost
 
 -- ---- where a search stops, as memory is wanted
 
--- folders were listed as a walk below the root begins
-abbrev pub BeginsInFolder : List (List ℕ) → Option (List ℕ) → Outside → Outside → Type 0
-BeginsInFolder exclude None old new = new.told ≡ old.told
-BeginsInFolder exclude (Some folder) old new = BeginsWalk exclude folder old.lists old.told new.told
+-- folders were listed as the walks below these folders begin
+abbrev pub BeginsInFolders : List (List ℕ) → List Home → Listing → Listing → Type 0
+BeginsInFolders exclude [] old new = new.told ≡ old.told
+BeginsInFolders exclude (home ∷ homes) old new =
+    BeginsWalk exclude home.path old.faults old.told new.told
+    ⊎ ((mid : Listing) × (first : Finds) × AreBelow exclude home.path old mid first × BeginsInFolders exclude homes mid new)
 
 -- none where the settings name files
-abbrev pub BeginsNamed : Root → List (List ℕ) → Outside → Outside → Type 0
-BeginsNamed root [] old new = BeginsInFolder root.exclude root.folder old new
+abbrev pub BeginsNamed : Root → List (List ℕ) → Listing → Listing → Type 0
+BeginsNamed root [] old new = BeginsInFolders root.exclude root.folders old new
 BeginsNamed root (file ∷ files) old new = new.told ≡ old.told
 
 -- names were found, and the first of them were read
@@ -128,12 +199,12 @@ pub record ReadsNamed (held : Option Holding) (root : Root) (old new : Outside) 
   pub names : List (List ℕ)
   pub missed : List (List ℕ)
   pub unnamed : List (List ℕ)
-  pub named : AreNamedBy root root.files old new names missed unnamed
+  pub named : AreNamedBy root root.files (listing_of old) (listing_of new) names missed unnamed
   pub read : ReadsFirst held (names_taken (is_many names) names) (source old.gave old.reads) new.gave
 
 -- what was asked of folders and files is what the workspace's search asks first
 abbrev pub Starts : Option Holding → Root → Outside → Outside → Type 0
-Starts held root old new = (BeginsNamed root root.files old new × (new.gave ≡ old.gave)) ⊎ ReadsNamed held root old new
+Starts held root old new = (BeginsNamed root root.files (listing_of old) (listing_of new) × (new.gave ≡ old.gave)) ⊎ ReadsNamed held root old new
 
 abbrev pub StartsWhere : Bool → Option Holding → Root → Outside → Outside → Type 0
 StartsWhere false held root old new = new ≡ old

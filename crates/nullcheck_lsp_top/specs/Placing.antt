@@ -1,16 +1,23 @@
 -- Which documents are of the workspace: each file of this host in its folder that isn't left out, and each that the settings name.
-use Rattle.std.specs.Prelude.{ℕ, ◌||◌, Bool, true, false, List, [], ◌∷◌, ◌++◌, Option, Some, None, codes, is_some, map, option_map, if◌then◌else◌}
+use Rattle.std.specs.Prelude.{ℕ, ◌&&◌, ◌||◌, Bool, true, false, List, [], ◌∷◌, ◌++◌, Option, Some, None, codes, is_some, map, option_map, if◌then◌else◌}
+use Rattle.std.specs.List.{list_any}
 use Rattle.jn_folder.specs.Listing.{each_once, is_among, joined}
 use Rattle.jn_folder.specs.Plain.{is_below, is_whole, plain, rehomed}
 use Rattle.jn_lsp.specs.declared.phase.Phase.{Phase}
 use Rattle.jn_lsp.specs.declared.phase.Phase.TheVariants.{Waiting, Serving, ShutDown, Exited}
 use Rattle.jn_lsp_text.specs.declared.message.Message.{Message}
-use Rattle.jn_lsp_text.specs.declared.message.Message.TheVariants.{Initialize, Initialized, DidOpen, DidChange, DidSave, DidClose, WatchedFiles, CodeAction, InlayHint, Shutdown, Exit, Ignored, Unknown, BadDocument, BadParams, NoMessage, NoJson, BadHeader, TooLarge}
+use Rattle.jn_lsp_text.specs.declared.message.Message.TheVariants.{Initialize, Initialized, DidOpen, DidChange, DidSave, DidClose, WatchedFiles, CodeAction, InlayHint, Hover, Shutdown, Exit, Ignored, Unknown, BadDocument, BadParams, NoMessage, NoJson, BadHeader, TooLarge}
 use Rattle.jn_lsp_text.specs.declared.reply.Reply.{Reply}
-use Rattle.jn_lsp_text.specs.declared.reply.Reply.TheVariants.{Show}
+use Rattle.jn_lsp_text.specs.declared.reply.Reply.TheVariants.{Show, Watch}
+use Rattle.nullcheck_lsp_top.specs.declared.client.Home.{Home}
 use Rattle.nullcheck_lsp_top.specs.declared.client.Root.{Root}
 
 -- ---- names
+
+-- the path of the first folder
+abbrev pub first_path : List Home → Option (List ℕ)
+first_path [] = None
+first_path (home ∷ homes) = Some home.path
 
 -- the plain path of a file that the settings name: in the folder, where it isn't whole
 abbrev pub path_in : Option (List ℕ) → List ℕ → List ℕ
@@ -24,31 +31,50 @@ named_path folder name = plain (path_in folder name)
 abbrev pub named_paths : Option (List ℕ) → List (List ℕ) → List (List ℕ)
 named_paths folder names = each_once (map (named_path folder) names)
 
+-- the files that the settings name, in the first folder where they aren't whole
+abbrev pub files_named : Root → List (List ℕ)
+files_named root = named_paths (first_path root.folders) root.files
+
 -- ---- documents
 
--- a plain path lies in the folder, where there is one
-abbrev pub is_in_folder : List (List ℕ) → Option (List ℕ) → List ℕ → Bool
-is_in_folder skipped None path = is_whole path
-is_in_folder skipped (Some folder) path = is_below skipped folder path
+-- a plain path lies in one of the folders, where there are any
+abbrev pub is_below_any : List (List ℕ) → List Home → List ℕ → Bool
+is_below_any skipped homes path = list_any (λ (home : Home). is_below skipped home.path path) homes
+
+abbrev pub is_in_folders : List (List ℕ) → List Home → List ℕ → Bool
+is_in_folders skipped [] path = is_whole path
+is_in_folders skipped (home ∷ homes) path = is_below_any skipped (home ∷ homes) path
 
 abbrev pub is_of : Root → List ℕ → Bool
-is_of root path = is_among (named_paths root.folder root.files) path || is_in_folder root.exclude root.folder path
+is_of root path = is_among (files_named root) path || is_in_folders root.exclude root.folders path
 
--- a plain path in the place where the folder really is, as it is below the folder
-abbrev pub homed_by : Option (List ℕ) → Option (List ℕ) → List ℕ → List ℕ
-homed_by None real path = path
-homed_by (Some folder) None path = path
-homed_by (Some folder) (Some real) path = rehomed folder real path
+abbrev pub if_of : Root → List ℕ → Option (List ℕ)
+if_of root path = if is_of root path then Some path else None
 
-abbrev pub homed : Root → List ℕ → List ℕ
-homed root path = homed_by root.folder root.real path
+-- a plain path in the place where a folder really is, as it is below the folder
+abbrev pub homed_by : List ℕ → Option (List ℕ) → List ℕ → List ℕ
+homed_by folder None path = path
+homed_by folder (Some real) path = rehomed folder real path
 
+abbrev pub homed : Home → List ℕ → List ℕ
+homed home path = homed_by home.path home.real path
+
+abbrev pub or_homed : Option (List ℕ) → Option (List ℕ) → Option (List ℕ)
+or_homed None other = other
+or_homed (Some path) other = Some path
+
+-- a plain path as it is below the first of these folders of which it is so one of the workspace's
+abbrev pub homed_in : Root → List Home → List ℕ → Option (List ℕ)
+homed_in root [] path = None
+homed_in root (home ∷ homes) path = or_homed (if_of root (homed home path)) (homed_in root homes path)
+
+-- a path that is one of the workspace's, as it is or below a folder
 abbrev pub placed_path : Root → List ℕ → Option (List ℕ)
-placed_path root path = if is_of root path then Some path else None
+placed_path root path = or_homed (if_of root path) (homed_in root root.folders path)
 
 -- the name by which a document is one of the workspace's; a name that is no path, as that of another scheme or host, is none
 abbrev pub placed_name : Root → List ℕ → Option (List ℕ)
-placed_name root name = placed_path root (homed root (plain name))
+placed_name root name = placed_path root (plain name)
 
 abbrev pub or_same : Option (List ℕ) → List ℕ → List ℕ
 or_same None name = name
@@ -60,7 +86,7 @@ or_ignored (Some m) = m
 
 -- a message as the server takes it: documents by the names of the workspace's files, and nothing of others
 abbrev pub placed : Root → Message → Message
-placed root (Initialize id folder infer files exclude) = Initialize id folder infer files exclude
+placed root (Initialize id folders infer files exclude markup) = Initialize id folders infer files exclude markup
 placed root Initialized = Initialized
 placed root (DidOpen name version text) = or_ignored (option_map (λ n. DidOpen n version text) (placed_name root name))
 placed root (DidChange name version changes) = or_ignored (option_map (λ n. DidChange n version changes) (placed_name root name))
@@ -69,6 +95,7 @@ placed root (DidClose name) = or_ignored (option_map DidClose (placed_name root 
 placed root WatchedFiles = WatchedFiles
 placed root (CodeAction id name range) = CodeAction id (or_same (placed_name root name) name) range
 placed root (InlayHint id name range) = InlayHint id (or_same (placed_name root name) name) range
+placed root (Hover id name position) = Hover id (or_same (placed_name root name) name) position
 placed root (Shutdown id) = Shutdown id
 placed root Exit = Exit
 placed root Ignored = Ignored
@@ -79,6 +106,23 @@ placed root NoMessage = NoMessage
 placed root NoJson = NoJson
 placed root BadHeader = BadHeader
 placed root TooLarge = TooLarge
+
+-- ---- what is asked of the client
+
+abbrev pub is_initialized : Message → Bool
+is_initialized Initialized = true
+is_initialized _ = false
+
+-- it is asked to tell of files that change, where it says that it can, when it is initialized (client/registerCapability)
+abbrev pub is_asked : Phase → Root → Message → Bool
+is_asked Waiting root m = false
+is_asked Serving root m = is_initialized m && root.watched
+is_asked ShutDown root m = false
+is_asked (Exited in_order) root m = false
+
+abbrev pub asks : Bool → List Reply
+asks false = []
+asks true = Watch ∷ []
 
 -- ---- what is said of others
 
@@ -101,3 +145,7 @@ abbrev pub says : Bool → Option (List ℕ) → List Reply
 says said None = []
 says true (Some name) = []
 says false (Some name) = Show (foreign_words name) ∷ []
+
+-- what is sent before a message is answered
+abbrev pub notices : Phase → Root → Bool → Message → List Reply
+notices phase root said m = asks (is_asked phase root m) ++ says said (foreign_in phase root m)

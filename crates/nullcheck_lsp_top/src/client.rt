@@ -1,22 +1,30 @@
 //! What is kept of a client.
-ghost use Rattle.std.specs.Prelude.{◌≡◌, IfOk, option_map};
-ghost use Rattle.jn_folder.specs.Plain.{plain};
+ghost use Rattle.std.specs.Prelude.{◌≡◌, IfOk, map};
 ghost use Rattle.nullcheck_lsp_top.specs.Looking as spec;
 
+use crate::placing::named_paths;
 use jn_base::{Infer, Seq, Text};
-use jn_folder::plain;
 use jn_lsp::{Phase, Server};
-use jn_lsp_text::Message;
+use jn_lsp_text::{Folders, Message};
 use std::alloc::{AllocError, Global};
+
+/// A folder of a workspace.
+#[derive(Drop)]
+pub struct Home {
+    /// Its plain path.
+    pub path: Text,
+    /// Where it really is, where the host says so.
+    pub real: Option<Text>,
+}
 
 /// Where a workspace's files are.
 #[derive(Drop)]
 pub struct Root {
-    /// The path of the workspace's folder, where one is named.
-    pub folder: Option<Text>,
-    /// Where that folder really is, where the host says so.
-    pub real: Option<Text>,
-    /// The names of the files by the settings, each whole or relative to the folder; none where nothing is set.
+    /// The workspace's folders, each once.
+    pub folders: Seq<Home>,
+    /// Whether the client watches files in them where it is asked to.
+    pub watched: bool,
+    /// The names of the files by the settings, each whole or relative to the first folder; none where nothing is set.
     pub files: Seq<Text>,
     /// The names of folders that are left out.
     pub exclude: Seq<Text>,
@@ -40,8 +48,8 @@ impl Client {
         Client {
             server: Server::new(alloc, infer),
             root: Root {
-                folder: None,
-                real: None,
+                folders: Seq::new(alloc),
+                watched: false,
                 files: Seq::new(alloc),
                 exclude: Seq::new(alloc),
             },
@@ -62,28 +70,33 @@ pub(crate) fn copy_texts(alloc: Global, texts: &[Text]) -> Result<Seq<Text>, All
     Ok(copy)
 }
 
-/// The path made plain, where there is one.
-fn plain_path(alloc: Global, path: &Option<Text>) -> Result<Option<Text>, AllocError>
-    ensures { IfOk result (λ made. made ≡ option_map plain path.now) }
+/// Folders of these paths, of which none was asked yet where it really is.
+fn unasked(alloc: Global, paths: &[Text]) -> Result<Seq<Home>, AllocError>
+    ensures { IfOk result (λ homes. homes ≡ map spec.unasked paths.now) }
 {
-    match path {
-        None => Ok(None),
-        Some(path) => Ok(Some(plain(alloc, path.as_str())?)),
+    let mut homes = Seq::new(alloc);
+    for path in paths {
+        homes.push(Home {
+            path: path.copy(alloc)?,
+            real: None,
+        })?;
     }
+    Ok(homes)
 }
 
 /// A copy of what says where files are.
 fn copy_root(
     alloc: Global,
-    folder: &Option<Text>,
+    folders: &Folders,
     files: &[Text],
     exclude: &[Text],
 ) -> Result<Root, AllocError>
-    ensures { IfOk result (λ root. root ≡ spec.root_of folder.now files.now exclude.now) }
+    ensures { IfOk result (λ root. root ≡ spec.root_of folders.now files.now exclude.now) }
 {
+    let paths = named_paths(alloc, &None, folders.paths.as_slice())?;
     Ok(Root {
-        folder: plain_path(alloc, folder)?,
-        real: None,
+        folders: unasked(alloc, paths.as_slice())?,
+        watched: folders.watched,
         files: copy_texts(alloc, files)?,
         exclude: copy_texts(alloc, exclude)?,
     })
@@ -95,12 +108,12 @@ fn root_in(alloc: Global, message: &Message) -> Result<Option<Root>, AllocError>
 {
     match message {
         Message::Initialize {
-            folder,
+            folders,
             files,
             exclude,
             ..
         } => {
-            let root = copy_root(alloc, folder, files.as_slice(), exclude.as_slice())?;
+            let root = copy_root(alloc, folders, files.as_slice(), exclude.as_slice())?;
             Ok(Some(root))
         }
         _ => Ok(None),

@@ -5,7 +5,7 @@ ghost use Rattle.nullcheck_lsp_top.specs.Looking.{Starts, StartsWhere, outside, 
 
 use crate::client::{Client, Root};
 use crate::finding::{read_workspace, traced};
-use crate::placing::{foreign_in, placed, says};
+use crate::placing::{foreign_in, notices, placed};
 use crate::warning::show;
 use jn_base::{OutOfMemory, Text};
 use jn_folder::Folder;
@@ -145,11 +145,12 @@ pub(crate) fn hear<R: Threads + Sync, F: Files, D: Folder, G: Gate + Sync>(
         (outside (D.told folder.new) (D.faults folder.new) (F.gave files.new) (F.faults files.new))
         client.old message }
 {
-    let foreign = foreign_in(alloc, client.server.phase(), &client.root, &message)?;
-    let notices = says(alloc, client.said, &foreign)?;
-    let told = traced(alloc, client.server.phase(), &message, folder)?;
+    let phase = client.server.phase();
+    let foreign = foreign_in(alloc, phase, &client.root, &message)?;
+    let notices = notices(alloc, phase, &client.root, client.said, &message, &foreign)?;
+    let told = traced(alloc, phase, &message, folder)?;
     let message = placed(alloc, &client.root, message)?;
-    let looks = looks(client.server.phase(), &message);
+    let looks = looks(phase, &message);
     settle(client, told, &foreign);
     let replies = client.server.take(rt, gate, &Event::Message(message))?;
     let more = look_where(rt, gate, alloc, looks, client, files, folder)?;

@@ -2,7 +2,7 @@
 ghost use Rattle.std.specs.Prelude.{◌≡◌, ◌++◌, IfOk, OnOk, map};
 ghost use Rattle.nullcheck_lsp_top.specs.Placing as spec;
 
-use crate::client::Root;
+use crate::client::{Home, Root};
 use jn_base::Text;
 use jn_folder::{each_once, is_among, is_below, is_whole, joined, plain, rehomed};
 use jn_lsp::Phase;
@@ -10,6 +10,16 @@ use jn_lsp_text::{Message, Reply};
 use std::alloc::{AllocError, Global};
 
 // ---- names
+
+/// The path of the first folder.
+fn first_path(alloc: Global, homes: &[Home]) -> Result<Option<Text>, AllocError>
+    ensures { IfOk result (λ path. path ≡ spec.first_path homes.now) }
+{
+    match homes {
+        [] => Ok(None),
+        [home, ..] => Ok(Some(home.path.copy(alloc)?)),
+    }
+}
 
 /// The path of a file that the settings name: as it is where it begins with a slash or there is no folder, else in the folder.
 fn path_in(alloc: Global, folder: &Option<Text>, name: &Text) -> Result<Text, AllocError>
@@ -54,40 +64,120 @@ pub(crate) fn named_paths(
     each_once(alloc, paths.as_slice())
 }
 
+/// The plain paths of the files that the settings name, in the first folder where they aren't whole.
+pub(crate) fn files_named(alloc: Global, root: &Root) -> Result<Vec<Text>, AllocError>
+    ensures { IfOk result (λ paths. paths.items ≡ spec.files_named root.now) }
+{
+    let folder = first_path(alloc, root.folders.as_slice())?;
+    named_paths(alloc, &folder, root.files.as_slice())
+}
+
 // ---- documents
 
-/// Whether a plain path lies in the folder, where there is one.
-fn is_in_folder(
+/// Whether a plain path lies in one of these folders.
+fn is_below_any(
     alloc: Global,
     skipped: &[Text],
-    folder: &Option<Text>,
+    homes: &[Home],
     path: &str,
 ) -> Result<bool, AllocError>
-    ensures { IfOk result (λ is. is ≡ spec.is_in_folder skipped.now folder.now path.now) }
+    ensures { IfOk result (λ is. is ≡ spec.is_below_any skipped.now homes.now path.now) }
 {
-    match folder {
-        None => Ok(is_whole(path)),
-        Some(folder) => is_below(alloc, skipped, folder.as_str(), path),
+    let mut rest = homes;
+    while let [home, more @ ..] = rest {
+        if is_below(alloc, skipped, home.path.as_str(), path)? {
+            return Ok(true);
+        }
+        rest = more;
+    }
+    Ok(false)
+}
+
+/// Whether a plain path lies in one of the folders, where there are any.
+fn is_in_folders(
+    alloc: Global,
+    skipped: &[Text],
+    homes: &[Home],
+    path: &str,
+) -> Result<bool, AllocError>
+    ensures { IfOk result (λ is. is ≡ spec.is_in_folders skipped.now homes.now path.now) }
+{
+    match homes {
+        [] => Ok(is_whole(path)),
+        _ => is_below_any(alloc, skipped, homes, path),
     }
 }
 
 fn is_of(alloc: Global, root: &Root, path: &str) -> Result<bool, AllocError>
     ensures { IfOk result (λ is. is ≡ spec.is_of root.now path.now) }
 {
-    let named = named_paths(alloc, &root.folder, root.files.as_slice())?;
+    let named = files_named(alloc, root)?;
     if is_among(named.as_slice(), path) {
         return Ok(true);
     }
-    is_in_folder(alloc, root.exclude.as_slice(), &root.folder, path)
+    is_in_folders(
+        alloc,
+        root.exclude.as_slice(),
+        root.folders.as_slice(),
+        path,
+    )
+}
+
+/// The path, where it is one of the workspace's.
+fn if_of(alloc: Global, root: &Root, path: &str) -> Result<Option<Text>, AllocError>
+    ensures { IfOk result (λ placed. placed ≡ spec.if_of root.now path.now) }
+{
+    if is_of(alloc, root, path)? {
+        Ok(Some(Text::of_str(alloc, path)?))
+    } else {
+        Ok(None)
+    }
 }
 
 /// A plain path in the place where the folder really is, as it is below the folder; any other as it is.
-fn homed(alloc: Global, root: &Root, path: &str) -> Result<Text, AllocError>
-    ensures { IfOk result (λ home. home ≡ spec.homed root.now path.now) }
+fn homed(alloc: Global, home: &Home, path: &str) -> Result<Text, AllocError>
+    ensures { IfOk result (λ moved. moved ≡ spec.homed home.now path.now) }
 {
-    match (&root.folder, &root.real) {
-        (Some(folder), Some(real)) => rehomed(alloc, folder.as_str(), real.as_str(), path),
-        _ => Text::of_str(alloc, path),
+    match &home.real {
+        Some(real) => rehomed(alloc, home.path.as_str(), real.as_str(), path),
+        None => Text::of_str(alloc, path),
+    }
+}
+
+/// A plain path as it is below this folder, where it is so one of the workspace's.
+fn homed_at(alloc: Global, root: &Root, home: &Home, path: &str) -> Result<Option<Text>, AllocError>
+    ensures { IfOk result (λ placed. placed ≡ spec.if_of root.now (spec.homed home.now path.now)) }
+{
+    let moved = homed(alloc, home, path)?;
+    if_of(alloc, root, moved.as_str())
+}
+
+/// A plain path as it is below the first of these folders of which it is so one of the workspace's.
+fn homed_in(
+    alloc: Global,
+    root: &Root,
+    homes: &[Home],
+    path: &str,
+) -> Result<Option<Text>, AllocError>
+    ensures { IfOk result (λ placed. placed ≡ spec.homed_in root.now homes.now path.now) }
+{
+    let mut rest = homes;
+    while let [home, more @ ..] = rest {
+        if let Some(placed) = homed_at(alloc, root, home, path)? {
+            return Ok(Some(placed));
+        }
+        rest = more;
+    }
+    Ok(None)
+}
+
+/// A path that is one of the workspace's, as it is or below a folder.
+fn placed_path(alloc: Global, root: &Root, path: &str) -> Result<Option<Text>, AllocError>
+    ensures { IfOk result (λ placed. placed ≡ spec.placed_path root.now path.now) }
+{
+    match if_of(alloc, root, path)? {
+        Some(placed) => Ok(Some(placed)),
+        None => homed_in(alloc, root, root.folders.as_slice(), path),
     }
 }
 
@@ -96,12 +186,7 @@ fn placed_name(alloc: Global, root: &Root, name: &Text) -> Result<Option<Text>, 
     ensures { IfOk result (λ placed. placed ≡ spec.placed_name root.now name.now) }
 {
     let stands = plain(alloc, name.as_str())?;
-    let path = homed(alloc, root, stands.as_str())?;
-    if is_of(alloc, root, path.as_str())? {
-        Ok(Some(path))
-    } else {
-        Ok(None)
-    }
+    placed_path(alloc, root, stands.as_str())
 }
 
 fn or_same(placed: Option<Text>, name: Text) -> Text
@@ -166,6 +251,14 @@ pub(crate) fn placed(alloc: Global, root: &Root, message: Message) -> Result<Mes
                 range,
             })
         }
+        Message::Hover { id, name, position } => {
+            let placed = placed_name(alloc, root, &name)?;
+            Ok(Message::Hover {
+                id,
+                name: or_same(placed, name),
+                position,
+            })
+        }
         other => Ok(other),
     }
 }
@@ -212,11 +305,7 @@ fn foreign_words(alloc: Global, name: &str) -> Result<Text, AllocError>
 }
 
 /// What is said of the first document that is none of the workspace's.
-pub(crate) fn says(
-    alloc: Global,
-    said: bool,
-    foreign: &Option<Text>,
-) -> Result<Vec<Reply>, AllocError>
+fn says(alloc: Global, said: bool, foreign: &Option<Text>) -> Result<Vec<Reply>, AllocError>
     ensures { IfOk result (λ replies. replies.items ≡ spec.says said foreign.now) }
 {
     let mut replies = Vec::new(alloc);
@@ -226,6 +315,46 @@ pub(crate) fn says(
             replies.push(Reply::Show { words })?;
         }
         _ => {}
+    }
+    Ok(replies)
+}
+
+// ---- what is sent before an answer
+
+/// Whether the client is asked to tell of files that change, when this message comes.
+fn is_asked(phase: Phase, root: &Root, message: &Message) -> bool
+    ensures { result ≡ spec.is_asked phase root.now message.now }
+{
+    match (phase, message) {
+        (Phase::Serving, Message::Initialized) => root.watched,
+        _ => false,
+    }
+}
+
+/// What is sent before a message is answered: a request to tell of files that change, and what is said of a document.
+pub(crate) fn notices(
+    alloc: Global,
+    phase: Phase,
+    root: &Root,
+    said: bool,
+    message: &Message,
+    foreign: &Option<Text>,
+) -> Result<Vec<Reply>, AllocError>
+    ensures { IfOk result (λ replies. replies.items
+        ≡ spec.asks (spec.is_asked phase root.now message.now) ++ spec.says said foreign.now) }
+{
+    let mut replies = asks(alloc, is_asked(phase, root, message))?;
+    let mut more = says(alloc, said, foreign)?;
+    replies.append(&mut more)?;
+    Ok(replies)
+}
+
+fn asks(alloc: Global, asked: bool) -> Result<Vec<Reply>, AllocError>
+    ensures { IfOk result (λ replies. replies.items ≡ spec.asks asked) }
+{
+    let mut replies = Vec::new(alloc);
+    if asked {
+        replies.push(Reply::Watch)?;
     }
     Ok(replies)
 }

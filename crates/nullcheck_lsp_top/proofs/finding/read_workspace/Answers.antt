@@ -1,21 +1,15 @@
-use Rattle.std.proofs.Common.{rules, ◌≡◌, ◌∙◌, ap, length, subst}
+use Rattle.std.proofs.Common.{rules, ◌≡◌, ◌∙◌, ap, inl, length, refl, subst}
+use Rattle.nullcheck_lsp_top.specs.Looking.{outside}
 use Rattle.nullcheck_lsp_top.specs.Reading.{AreTaken, ReadsFirst, is_many, names_taken, source, warnings_of}
-use Rattle.nullcheck_lsp_top.proofs.Locating.{named_so}
 use Rattle.nullcheck_lsp_top.proofs.Reading.{warned_by}
-use Rattle.nullcheck_lsp_top.proofs.Starting.{starts_files, starts_folders}
+use Rattle.nullcheck_lsp_top.proofs.Starting.{starts_files}
 use Rattle.nullcheck_lsp_top.proofs.finding.read_workspace.Goals as goal
 
 pub returns-clause-found : goal.returns-clause-found
 returns-clause-found g c =
     let held = g.F.Files.held c.args.files.now in
-    let told = g.D.Folder.told c.args.folder.now in
-    let then_ = g.D.Folder.told c.find.new.folder in
-    let lists = g.D.Folder.faults c.args.folder.now in
-    let now = g.D.Folder.faults c.find.new.folder in
-    let gave = g.F.Files.gave c.args.files.now in
-    let right = g.F.Files.gave c.take_files.new.files in
-    let reads = g.F.Files.faults c.args.files.now in
-    let other = g.F.Files.faults c.take_files.new.files in
+    let old = outside (g.D.Folder.told c.args.folder.now) (g.D.Folder.faults c.args.folder.now) (g.F.Files.gave c.args.files.now) (g.F.Files.faults c.args.files.now) in
+    let new = outside (g.D.Folder.told c.find.new.folder) (g.D.Folder.faults c.find.new.folder) (g.F.Files.gave c.take_files.new.files) (g.F.Files.faults c.take_files.new.files) in
     let names = c.in_ok-found.found.names.items in
     let missed = c.in_ok-found.found.missed.items in
     let unnamed = c.in_ok-found.found.unnamed.items in
@@ -27,68 +21,42 @@ returns-clause-found g c =
       missed = missed;
       unnamed = unnamed;
       lost = lost;
-      named = named_so c.args.root.now c.args.root.now.files told then_ lists now gave gave right reads reads other names missed unnamed (c.in_ok-found.ensures.found gave reads);
+      named = c.in_ok-found.ensures.found;
       read =
-          subst (λ b. AreTaken held b names (source gave reads) (source right other) c.in_ok-reads.reads.files lost) (c.is_many-many.ensures ∙ ap is_many c.deref.ensures.value)
-          (subst (λ ns. AreTaken held c.is_many-many.result ns (source gave reads) (source right other) c.in_ok-reads.reads.files lost) c.deref-2.ensures.value c.in_ok-reads.ensures.taken);
+          subst (λ b. AreTaken held b names (source old.gave old.reads) (source new.gave new.reads) c.in_ok-reads.reads.files lost) (c.is_many-many.ensures ∙ ap is_many c.deref.ensures.value)
+          (subst (λ ns. AreTaken held c.is_many-many.result ns (source old.gave old.reads) (source new.gave new.reads) c.in_ok-reads.reads.files lost) c.deref-2.ensures.value c.in_ok-reads.ensures.taken);
       warned = warned;
     }
 
 pub returns-in_err-found-clause-starts : goal.returns-in_err-found-clause-starts
-returns-in_err-found-clause-starts g c =
-    let held = g.F.Files.held c.args.files.now in
-    let told = g.D.Folder.told c.args.folder.now in
-    let then_ = g.D.Folder.told c.find.new.folder in
-    let lists = g.D.Folder.faults c.args.folder.now in
-    let now = g.D.Folder.faults c.find.new.folder in
-    let gave = g.F.Files.gave c.args.files.now in
-    let reads = g.F.Files.faults c.args.files.now in
-    starts_folders held c.args.root.now told then_ lists now gave reads (c.in_err-found.ensures.begins gave reads)
+returns-in_err-found-clause-starts g c = inl (c.in_err-found.ensures.begins, refl)
 
 pub returns-in_err-reads-clause-starts : goal.returns-in_err-reads-clause-starts
 returns-in_err-reads-clause-starts g c =
     let held = g.F.Files.held c.args.files.now in
-    let told = g.D.Folder.told c.args.folder.now in
-    let then_ = g.D.Folder.told c.find.new.folder in
-    let lists = g.D.Folder.faults c.args.folder.now in
-    let now = g.D.Folder.faults c.find.new.folder in
-    let gave = g.F.Files.gave c.args.files.now in
-    let reads = g.F.Files.faults c.args.files.now in
-    let right = g.F.Files.gave c.take_files.new.files in
-    let other = g.F.Files.faults c.take_files.new.files in
+    let old = outside (g.D.Folder.told c.args.folder.now) (g.D.Folder.faults c.args.folder.now) (g.F.Files.gave c.args.files.now) (g.F.Files.faults c.args.files.now) in
+    let new = outside (g.D.Folder.told c.find.new.folder) (g.D.Folder.faults c.find.new.folder) (g.F.Files.gave c.take_files.new.files) (g.F.Files.faults c.take_files.new.files) in
     let names = c.in_ok-found.found.names.items in
     let many = c.is_many-many.result in
-    let first : ReadsFirst held (names_taken many names) (source gave reads) right = subst (λ ns. ReadsFirst held (names_taken many ns) (source gave reads) right) c.deref-2.ensures.value c.in_err-reads.ensures.first in
-    starts_files held c.args.root.now told then_ lists now gave right reads other names c.in_ok-found.found.missed.items c.in_ok-found.found.unnamed.items many (c.in_ok-found.ensures.found gave reads) (c.is_many-many.ensures ∙ ap is_many c.deref.ensures.value) first
+    let first : ReadsFirst held (names_taken many names) (source old.gave old.reads) new.gave = subst (λ ns. ReadsFirst held (names_taken many ns) (source old.gave old.reads) new.gave) c.deref-2.ensures.value c.in_err-reads.ensures.first in
+    starts_files held c.args.root.now old new names c.in_ok-found.found.missed.items c.in_ok-found.found.unnamed.items many c.in_ok-found.ensures.found (c.is_many-many.ensures ∙ ap is_many c.deref.ensures.value) first
 
 pub returns-in_err-warnings-clause-starts : goal.returns-in_err-warnings-clause-starts
 returns-in_err-warnings-clause-starts g c =
     let held = g.F.Files.held c.args.files.now in
-    let told = g.D.Folder.told c.args.folder.now in
-    let then_ = g.D.Folder.told c.find.new.folder in
-    let lists = g.D.Folder.faults c.args.folder.now in
-    let now = g.D.Folder.faults c.find.new.folder in
-    let gave = g.F.Files.gave c.args.files.now in
-    let reads = g.F.Files.faults c.args.files.now in
-    let right = g.F.Files.gave c.take_files.new.files in
-    let other = g.F.Files.faults c.take_files.new.files in
+    let old = outside (g.D.Folder.told c.args.folder.now) (g.D.Folder.faults c.args.folder.now) (g.F.Files.gave c.args.files.now) (g.F.Files.faults c.args.files.now) in
+    let new = outside (g.D.Folder.told c.find.new.folder) (g.D.Folder.faults c.find.new.folder) (g.F.Files.gave c.take_files.new.files) (g.F.Files.faults c.take_files.new.files) in
     let names = c.in_ok-found.found.names.items in
     let many = c.is_many-many.result in
-    let first : ReadsFirst held (names_taken many names) (source gave reads) right = subst (λ ns. ReadsFirst held (names_taken many ns) (source gave reads) right) c.deref-2.ensures.value c.in_ok-reads.ensures.first in
-    starts_files held c.args.root.now told then_ lists now gave right reads other names c.in_ok-found.found.missed.items c.in_ok-found.found.unnamed.items many (c.in_ok-found.ensures.found gave reads) (c.is_many-many.ensures ∙ ap is_many c.deref.ensures.value) first
+    let first : ReadsFirst held (names_taken many names) (source old.gave old.reads) new.gave = subst (λ ns. ReadsFirst held (names_taken many ns) (source old.gave old.reads) new.gave) c.deref-2.ensures.value c.in_ok-reads.ensures.first in
+    starts_files held c.args.root.now old new names c.in_ok-found.found.missed.items c.in_ok-found.found.unnamed.items many c.in_ok-found.ensures.found (c.is_many-many.ensures ∙ ap is_many c.deref.ensures.value) first
 
 pub returns-clause-starts : goal.returns-clause-starts
 returns-clause-starts g c =
     let held = g.F.Files.held c.args.files.now in
-    let told = g.D.Folder.told c.args.folder.now in
-    let then_ = g.D.Folder.told c.find.new.folder in
-    let lists = g.D.Folder.faults c.args.folder.now in
-    let now = g.D.Folder.faults c.find.new.folder in
-    let gave = g.F.Files.gave c.args.files.now in
-    let reads = g.F.Files.faults c.args.files.now in
-    let right = g.F.Files.gave c.take_files.new.files in
-    let other = g.F.Files.faults c.take_files.new.files in
+    let old = outside (g.D.Folder.told c.args.folder.now) (g.D.Folder.faults c.args.folder.now) (g.F.Files.gave c.args.files.now) (g.F.Files.faults c.args.files.now) in
+    let new = outside (g.D.Folder.told c.find.new.folder) (g.D.Folder.faults c.find.new.folder) (g.F.Files.gave c.take_files.new.files) (g.F.Files.faults c.take_files.new.files) in
     let names = c.in_ok-found.found.names.items in
     let many = c.is_many-many.result in
-    let first : ReadsFirst held (names_taken many names) (source gave reads) right = subst (λ ns. ReadsFirst held (names_taken many ns) (source gave reads) right) c.deref-2.ensures.value c.in_ok-reads.ensures.first in
-    starts_files held c.args.root.now told then_ lists now gave right reads other names c.in_ok-found.found.missed.items c.in_ok-found.found.unnamed.items many (c.in_ok-found.ensures.found gave reads) (c.is_many-many.ensures ∙ ap is_many c.deref.ensures.value) first
+    let first : ReadsFirst held (names_taken many names) (source old.gave old.reads) new.gave = subst (λ ns. ReadsFirst held (names_taken many ns) (source old.gave old.reads) new.gave) c.deref-2.ensures.value c.in_ok-reads.ensures.first in
+    starts_files held c.args.root.now old new names c.in_ok-found.found.missed.items c.in_ok-found.found.unnamed.items many c.in_ok-found.ensures.found (c.is_many-many.ensures ∙ ap is_many c.deref.ensures.value) first
