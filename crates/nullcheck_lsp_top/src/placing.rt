@@ -1,5 +1,5 @@
 //! Which documents are of the workspace.
-ghost use Rattle.std.specs.Prelude.{◌≡◌, ◌++◌, IfOk, OnOk, map};
+ghost use Rattle.std.specs.Prelude.{◌≡◌, ◌++◌, IfOk, map};
 ghost use Rattle.nullcheck_lsp_top.specs.Placing as spec;
 
 use crate::client::{Home, Root};
@@ -186,7 +186,8 @@ fn placed_name(alloc: Global, root: &Root, name: &Text) -> Result<Option<Text>, 
     ensures { IfOk result (λ placed. placed ≡ spec.placed_name root.now name.now) }
 {
     let stands = plain(alloc, name.as_str())?;
-    placed_path(alloc, root, stands.as_str())
+    let placed = placed_path(alloc, root, stands.as_str())?;
+    Ok(placed)
 }
 
 fn or_same(placed: Option<Text>, name: Text) -> Text

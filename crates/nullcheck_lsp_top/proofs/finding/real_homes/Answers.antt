@@ -1,5 +1,5 @@
-use Rattle.std.proofs.Common.{◌≡◌, ◌+◌, ◌++◌, List, [], ◌∷◌, ap, arith, sym, subst, take, ◌∙◌}
-use Rattle.std.proofs.lemmas.List.{take_all, take_more}
+use Rattle.std.proofs.Common.{◌≡◌, ◌+◌, ◌++◌, List, [], ◌∷◌, ap, sym, subst, take, ◌∙◌}
+use Rattle.std.proofs.lemmas.List.{take_more}
 use Rattle.nullcheck_lsp_top.specs.declared.client.Home.{Home}
 use Rattle.nullcheck_lsp_top.specs.Looking.{AreReal, Listing, home_at, listing}
 use Rattle.nullcheck_lsp_top.proofs.Searching.{real_more}

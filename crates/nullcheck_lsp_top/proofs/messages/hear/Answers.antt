@@ -1,7 +1,6 @@
-use Rattle.std.proofs.Common.{◌≡◌, ◌++◌, ◌∙◌, Option, ap, inr, refl, subst}
+use Rattle.std.proofs.Common.{◌++◌, ◌∙◌, ap, inr, refl, subst}
 use Rattle.std.specs.Prelude.{◌||◌, is_some}
 use Rattle.nullcheck_lsp_top.specs.declared.client.Client.{Client}
-use Rattle.nullcheck_lsp_top.specs.declared.client.Root.{Root}
 use Rattle.nullcheck_lsp_top.specs.Hearing.{LooksWhere, looks}
 use Rattle.nullcheck_lsp_top.specs.Looking.{Traces, TracesFirst, outside, told_root}
 use Rattle.nullcheck_lsp_top.specs.Placing.{asks, foreign_in, is_asked, notices, says}
