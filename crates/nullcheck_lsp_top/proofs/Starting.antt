@@ -107,4 +107,4 @@ starts_traced held old out before message told traces = inl (told, out, traces, 
 
 -- nothing was asked
 pub starts_not : (held : Option Holding) (old : Outside) (before : Client) (message : Message) → StartsBy held old old before message
-starts_not held old before message = inr (traced_none (told_root before.server.phase message) (listing_of old), refl, refl)
+starts_not held old before message = inr (traced_none (told_root before.server.phase message) (listing_of old), (refl, refl))

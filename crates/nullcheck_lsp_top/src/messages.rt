@@ -2,12 +2,13 @@
 ghost use Rattle.std.specs.Prelude.{◌≡◌, ◌++◌, ◌||◌, IfOk, is_some};
 ghost use Rattle.nullcheck_lsp_top.specs.Hearing as spec;
 ghost use Rattle.nullcheck_lsp_top.specs.Looking.{Starts, StartsWhere, outside, root_or};
+ghost use Rattle.nullcheck_lsp_top.specs.Placing.{foreign_in, notices};
 
 use crate::client::{Client, Root};
 use crate::finding::{read_workspace, traced};
 use crate::placing::{foreign_in, notices, placed};
 use crate::warning::show;
-use jn_base::{OutOfMemory, Text};
+use jn_base::OutOfMemory;
 use jn_folder::Folder;
 use jn_lsp::{Event, Phase, wants_folder};
 use jn_lsp_frames::Frame;
@@ -112,17 +113,44 @@ fn look_where<R: Threads + Sync, F: Files, D: Folder, G: Gate + Sync>(
     }
 }
 
+/// What is sent before a message is answered, and whether it opens a document that is none of the workspace's.
+#[derive(Drop)]
+struct First {
+    notices: Vec<Reply>,
+    foreign: bool,
+}
+
+fn first_of(
+    alloc: Global,
+    phase: Phase,
+    root: &Root,
+    said: bool,
+    message: &Message,
+) -> Result<First, AllocError>
+    ensures notices { IfOk result
+        (λ first. first.notices.items ≡ notices phase root.now said message.now) }
+    ensures foreign { IfOk result
+        (λ first. first.foreign ≡ is_some (foreign_in phase root.now message.now)) }
+{
+    let foreign = foreign_in(alloc, phase, root, message)?;
+    let notices = notices(alloc, phase, root, said, message, &foreign)?;
+    Ok(First {
+        notices,
+        foreign: foreign.is_some(),
+    })
+}
+
 /// Keeps where the files are, where that is told, and whether it was said that some documents aren't checked.
-fn settle(client: &mut Client, told: Option<Root>, foreign: &Option<Text>)
+fn settle(client: &mut Client, told: Option<Root>, foreign: bool)
     ensures server { client.new.server ≡ client.old.server }
     ensures root { client.new.root ≡ root_or told client.old.root }
     ensures shown { client.new.shown ≡ client.old.shown }
-    ensures said { client.new.said ≡ (client.old.said || is_some foreign.now) }
+    ensures said { client.new.said ≡ (client.old.said || foreign) }
 {
     if let Some(root) = told {
         client.root = root;
     }
-    client.said = client.said || foreign.is_some();
+    client.said = client.said || foreign;
 }
 
 /// Takes a message, and gives the replies to it.
@@ -146,14 +174,13 @@ pub(crate) fn hear<R: Threads + Sync, F: Files, D: Folder, G: Gate + Sync>(
         client.old message }
 {
     let phase = client.server.phase();
-    let foreign = foreign_in(alloc, phase, &client.root, &message)?;
-    let notices = notices(alloc, phase, &client.root, client.said, &message, &foreign)?;
+    let first = first_of(alloc, phase, &client.root, client.said, &message)?;
     let told = traced(alloc, phase, &message, folder)?;
     let message = placed(alloc, &client.root, message)?;
     let looks = looks(phase, &message);
-    settle(client, told, &foreign);
+    settle(client, told, first.foreign);
     let replies = client.server.take(rt, gate, &Event::Message(message))?;
     let more = look_where(rt, gate, alloc, looks, client, files, folder)?;
-    let all = all_of(notices, replies, more)?;
+    let all = all_of(first.notices, replies, more)?;
     Ok(all)
 }
