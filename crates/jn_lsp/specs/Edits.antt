@@ -55,7 +55,7 @@ abbrev pub AreEdited : List (List ℕ) → Message → List SourceFile → Optio
 AreEdited unknown (DidOpen name version text) documents after = after ≡ opened name text documents
 AreEdited unknown (DidChange name version changes) documents after = IsTyped name changes documents (known_document unknown name documents) after
 AreEdited unknown (DidClose name) documents after = after ≡ closed name documents
-AreEdited unknown (Initialize id folder infer files exclude markup) documents after = after ≡ None
+AreEdited unknown (Initialize id folders infer files exclude markup) documents after = after ≡ None
 AreEdited unknown Initialized documents after = after ≡ None
 AreEdited unknown (DidSave name) documents after = after ≡ None
 AreEdited unknown WatchedFiles documents after = after ≡ None

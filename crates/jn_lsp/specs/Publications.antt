@@ -3,7 +3,7 @@ use Rattle.std.specs.Prelude.{ℕ, ◌≡◌, ◌⊎◌, ◌++◌, Bool, true, f
 use Rattle.std.specs.List.{list_any}
 use Rattle.jn_lsp_text.specs.declared.reply.Diagnostic.{Diagnostic}
 use Rattle.jn_lsp_text.specs.declared.reply.Reply.{Reply}
-use Rattle.jn_lsp_text.specs.declared.reply.Reply.TheVariants.{Capabilities, Done, Refusal, Publish, Show, Actions, Hints, Hovered, Watch}
+use Rattle.jn_lsp_text.specs.declared.reply.Reply.TheVariants.{Capabilities, Done, Refusal, Publish, Show, Watch, Actions, Hints, Hovered}
 use Rattle.jn_lsp.specs.declared.diagnostics.Told.{Told}
 use Rattle.jn_lsp.specs.declared.versions.Version.{Version}
 use Rattle.jn_lsp.specs.Telling.{told_of}
@@ -63,10 +63,10 @@ published name before (Capabilities id) = before
 published name before (Done id) = before
 published name before (Refusal id failure) = before
 published name before (Show words) = before
+published name before Watch = before
 published name before (Actions id actions) = before
 published name before (Hints id hints) = before
 published name before (Hovered id markup hover) = before
-published name before Watch = before
 
 -- what was published last of a name; where nothing was, this
 abbrev pub last_published : List ℕ → List Diagnostic → List Reply → List Diagnostic

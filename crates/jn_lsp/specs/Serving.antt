@@ -49,7 +49,7 @@ unread NoMessage = Some Request
 unread TooLarge = Some Request
 unread NoJson = Some Parse
 unread BadHeader = Some Parse
-unread (Initialize id folder infer files exclude markup) = None
+unread (Initialize id folders infer files exclude markup) = None
 unread Initialized = None
 unread (DidOpen name version text) = None
 unread (DidChange name version changes) = None
@@ -76,7 +76,7 @@ nameless (Some failure) = Some (Refusal None failure)
 
 -- before `initialize` no other request is served
 abbrev pub waiting_answer : Message → Option Reply
-waiting_answer (Initialize id folder infer files exclude markup) = Some (Capabilities id)
+waiting_answer (Initialize id folders infer files exclude markup) = Some (Capabilities id)
 waiting_answer (CodeAction id name range) = refusal NotInitialized (Some id)
 waiting_answer (InlayHint id name range) = refusal NotInitialized (Some id)
 waiting_answer (HoverAsked id name position) = refusal NotInitialized (Some id)
@@ -87,7 +87,7 @@ waiting_answer other = nameless (unread other)
 
 -- a second `initialize` is refused, and these are the actions, the hints and what is shown at a position, for requests of them
 abbrev pub serving_answer : Markup → List Action → List Hint → Option Hover → Message → Option Reply
-serving_answer markup actions hints hover (Initialize id folder infer files exclude other) = refusal Request (Some id)
+serving_answer markup actions hints hover (Initialize id folders infer files exclude other) = refusal Request (Some id)
 serving_answer markup actions hints hover (CodeAction id name range) = Some (Actions id actions)
 serving_answer markup actions hints hover (InlayHint id name range) = Some (Hints id hints)
 serving_answer markup actions hints hover (HoverAsked id name position) = Some (Hovered id markup hover)
@@ -98,7 +98,7 @@ serving_answer markup actions hints hover other = nameless (unread other)
 
 -- after `shutdown` every request is refused
 abbrev pub late_answer : Message → Option Reply
-late_answer (Initialize id folder infer files exclude markup) = refusal Request (Some id)
+late_answer (Initialize id folders infer files exclude markup) = refusal Request (Some id)
 late_answer (CodeAction id name range) = refusal Request (Some id)
 late_answer (InlayHint id name range) = refusal Request (Some id)
 late_answer (HoverAsked id name position) = refusal Request (Some id)
@@ -115,7 +115,7 @@ answer_of markup actions hints hover ShutDown message = late_answer message
 answer_of markup actions hints hover (Exited in_order) _ = None
 
 abbrev pub phase_behind : Phase → Message → Phase
-phase_behind Waiting (Initialize id folder infer files exclude markup) = Serving
+phase_behind Waiting (Initialize id folders infer files exclude markup) = Serving
 phase_behind Waiting Exit = Exited false
 phase_behind Waiting _ = Waiting
 phase_behind Serving (Shutdown id) = ShutDown
@@ -154,7 +154,7 @@ IsMoved (MessageEvent message) before after = (documents : Option (List SourceFi
 
 -- `initialize` says which members are inferred, and how the client shows what stands at a position
 abbrev pub chosen_by : Message → Workspace → Option Workspace
-chosen_by (Initialize id folder infer files exclude markup) before = Some (workspace_of (chosen infer before.infer) markup before.disk before.documents before.unknown before.versions)
+chosen_by (Initialize id folders infer files exclude markup) before = Some (workspace_of (chosen infer before.infer) markup before.disk before.documents before.unknown before.versions)
 chosen_by _ before = None
 
 abbrev pub started_by : Event → Workspace → Option Workspace
