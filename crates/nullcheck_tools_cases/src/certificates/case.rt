@@ -3,9 +3,11 @@
 //! its first N bytes and `more=N` puts N zero bytes after them; `read=N` has the Nth call on the source fail, `write=N` the Nth
 //! write, `store=N` the Nth file that is put in place, and `room=N` gives the sink room for N bytes. `special=NAME` says that the name
 //! leads to no plain file. `times=N` takes the last word N times.
+use crate::beside::read_text_in;
+use crate::certificates::FOLDER;
 use jn_base::Text;
 use std::alloc::{AllocError, Global};
-use std::{fs, io};
+use std::io;
 
 /// The room of a sink that never fills.
 const WIDE: u32 = 100_000;
@@ -114,7 +116,7 @@ fn take_failure(alloc: Global, case: &mut Case, word: &str) -> Result<bool, Allo
 /// Whether the word gives the certificate, which is put into the case then.
 fn take_cert(rt: &HostRuntime, case: &mut Case, word: &str) -> io::Result<bool> {
     if let Some(name) = text(word, "hex") {
-        let digits = fs::read_to_string(rt, name)?;
+        let digits = read_text_in(rt, FOLDER, name)?;
         case.cert = Some(bytes_of(rt, digits.as_str())?);
     } else if let Some(count) = number(word, "zeros") {
         case.cert = Some(vec![in rt.alloc(); 0u8; count.min(LARGEST) as usize]?);

@@ -1,10 +1,8 @@
-//! Runs the top call of annotated sources on each line of the tables that the words name, over the files beside them, and prints what it
-//! writes and what it replaces.
-#![tactic(auto)]
-
+//! Runs the top call of annotated sources on each line of a table, over the files beside it, and prints what it writes and what it replaces.
 mod case;
 
-use case::{Case, case_of};
+use crate::annotated::case::{Case, case_of};
+use crate::beside::read_in;
 use jn_base::Text;
 use jn_outside::{MemFile, MemFiles, MemSink};
 use jn_reporters::{Plain, Reporter};
@@ -13,8 +11,11 @@ use jn_targets::{MemTargets, Replaced};
 use nullcheck_annotate_top::annotate_files;
 use nullcheck_top::nullcheck;
 use std::alloc::{AllocError, Global};
+use std::io;
 use std::thread::Threads;
-use std::{env, fs, io};
+
+/// The folder of these tables.
+pub const FOLDER: &str = "annotated";
 
 /// The room of a sink that never fills.
 const WIDE: u32 = 1_000_000;
@@ -43,7 +44,7 @@ fn held_files(rt: &HostRuntime, words: &[String]) -> io::Result<Vec<MemFile>> {
     let mut held = Vec::new(rt.alloc());
     for word in words {
         let path = path_of(rt.alloc(), word.as_str())?;
-        if let Ok(bytes) = fs::read(rt, path.as_str()) {
+        if let Ok(bytes) = read_in(rt, FOLDER, path.as_str()) {
             let name = word.clone()?;
             held.push(MemFile { name, bytes })?;
         }
@@ -162,7 +163,7 @@ fn run_again<R: Threads + Sync>(rt: &HostRuntime, threads: &R, case: &Case) -> i
 }
 
 /// Runs the case of a line with these threads, and prints both.
-fn run<R: Threads + Sync>(rt: &HostRuntime, threads: &R, line: &str) -> io::Result<()> {
+pub fn run<R: Threads + Sync>(rt: &HostRuntime, threads: &R, line: &str) -> io::Result<()> {
     let case = case_of(rt.alloc(), line)?;
     println!(rt; "== {line}")?;
     if case.again {
@@ -170,15 +171,5 @@ fn run<R: Threads + Sync>(rt: &HostRuntime, threads: &R, line: &str) -> io::Resu
     }
     let held = held_files(rt, &case.words)?;
     let _targets = run_over(rt, threads, &case, &case.words, held)?;
-    Ok(())
-}
-
-fn main(rt: HostRuntime) -> io::Result<()> {
-    for table in env::args(&rt)?.skip(1) {
-        let text = fs::read_to_string(&rt, table.as_str())?;
-        for line in text.lines() {
-            run(&rt, &rt, line)?;
-        }
-    }
     Ok(())
 }

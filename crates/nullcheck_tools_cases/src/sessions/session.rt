@@ -6,12 +6,14 @@
 //! - `raw TEXT`: the client sends this text, where `\r`, `\n` and `\!` are the bytes 13, 10 and 255, which is none of UTF-8,
 //! - `fill N`: the client sends so many spaces,
 //! - anything else: the client sends this line as a body, after a header.
+use crate::beside::{read_in, read_text_in};
+use crate::sessions::FOLDER;
 use jn_base::{Seq, Text};
 use jn_folder::{Entry, Kind, Listed};
 use jn_lsp_frames::frame_of;
 use jn_outside::MemFile;
 use std::alloc::{AllocError, Global};
-use std::{fs, io};
+use std::io;
 
 #[derive(Drop)]
 pub struct Recorded {
@@ -23,7 +25,7 @@ pub struct Recorded {
 /// Holds the bytes of a file under a path.
 fn hold(rt: &HostRuntime, recorded: &mut Recorded, rest: &str) -> io::Result<()> {
     if let Some((path, file)) = rest.split_once(' ') {
-        let bytes = fs::read(rt, file)?;
+        let bytes = read_in(rt, FOLDER, file)?;
         let name = String::from_str(rt.alloc(), path)?;
         recorded.held.push(MemFile { name, bytes })?;
     }
@@ -124,7 +126,7 @@ pub fn read_session(rt: &HostRuntime, name: &str) -> io::Result<Recorded> {
         folders: Vec::new(alloc),
         sent: Vec::new(alloc),
     };
-    let text = fs::read_to_string(rt, name)?;
+    let text = read_text_in(rt, FOLDER, name)?;
     for line in text.lines() {
         take(rt, &mut recorded, line)?;
     }

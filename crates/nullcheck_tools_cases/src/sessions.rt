@@ -1,19 +1,20 @@
-//! Serves the recorded session of each line of the tables that the words name, and prints the bodies that are written and the status.
-#![tactic(auto)]
-
+//! Serves the recorded session of each line of a table, and prints the bodies that are written and the status.
 mod case;
 mod session;
 
-use case::{Case, case_of};
+use crate::sessions::case::{Case, case_of};
+use crate::sessions::session::{Recorded, read_session};
 use jn_folder::MemFolder;
 use jn_lsp_frames::{End, Frame, FrameReader, MemStream, Next};
 use jn_outside::{MemFiles, MemSink};
 use jn_sharing::Straight;
 use nullcheck_lsp_top::{Status, serve};
-use session::{Recorded, read_session};
 use std::alloc::{AllocError, Global};
+use std::io;
 use std::thread::Threads;
-use std::{env, fs, io};
+
+/// The folder of these tables.
+pub const FOLDER: &str = "sessions";
 
 /// The room of a sink that never fills.
 const WIDE: u32 = 1_000_000;
@@ -81,7 +82,7 @@ fn served<R: Threads + Sync>(
 }
 
 /// Serves the session of a line with these threads, and prints the line, the bodies and the status.
-fn run<R: Threads + Sync>(rt: &HostRuntime, threads: &R, line: &str) -> io::Result<()> {
+pub fn run<R: Threads + Sync>(rt: &HostRuntime, threads: &R, line: &str) -> io::Result<()> {
     let case = case_of(rt.alloc(), line)?;
     let session = read_session(rt, case.name.as_str())?;
     println!(rt; "== {line}")?;
@@ -89,14 +90,4 @@ fn run<R: Threads + Sync>(rt: &HostRuntime, threads: &R, line: &str) -> io::Resu
     print_bodies(rt, bytes)?;
     let number = status.number();
     println!(rt; "-- {number}")
-}
-
-fn main(rt: HostRuntime) -> io::Result<()> {
-    for table in env::args(&rt)?.skip(1) {
-        let text = fs::read_to_string(&rt, table.as_str())?;
-        for line in text.lines() {
-            run(&rt, &rt, line)?;
-        }
-    }
-    Ok(())
 }

@@ -1,11 +1,10 @@
-//! Carries out the script of each line of the tables that the words name, over the files beside them, and prints what is written.
-#![tactic(auto)]
-
+//! Carries out the script of each line of a table, over the files beside it, and prints what is written.
 mod case;
 mod counting;
 
-use case::{Case, case_of};
-use counting::Counting;
+use crate::beside::read_in;
+use crate::scripts::case::{Case, case_of};
+use crate::scripts::counting::Counting;
 use jn_base::Infer;
 use jn_outside::{MemFile, MemFiles, MemSink};
 use jn_recheck::Session;
@@ -13,8 +12,11 @@ use jn_script::{Step, read_script};
 use jn_sharing::Straight;
 use nullcheck_recheck_top::recheck;
 use std::alloc::{AllocError, Global};
+use std::io;
 use std::thread::Threads;
-use std::{env, fs, io};
+
+/// The folder of these tables.
+pub const FOLDER: &str = "scripts";
 
 /// The room of a sink that never fills.
 const WIDE: u32 = 1_000_000;
@@ -24,7 +26,7 @@ const MOST: u32 = 1000;
 
 /// The steps of the script of this name; none of one that isn't there or is bad.
 fn steps_of(rt: &HostRuntime, name: &str) -> io::Result<Vec<Step>> {
-    if let Ok(text) = fs::read(rt, name)
+    if let Ok(text) = read_in(rt, FOLDER, name)
         && text.len() <= 1_048_576
         && let Ok(steps) = read_script(rt.alloc(), &text)
     {
@@ -35,7 +37,7 @@ fn steps_of(rt: &HostRuntime, name: &str) -> io::Result<Vec<Step>> {
 
 /// Holds the file of this name, where it stands beside the tables.
 fn hold(rt: &HostRuntime, held: &mut Vec<MemFile>, name: &str) -> io::Result<()> {
-    if let Ok(bytes) = fs::read(rt, name) {
+    if let Ok(bytes) = read_in(rt, FOLDER, name) {
         let name = String::from_str(rt.alloc(), name)?;
         held.push(MemFile { name, bytes })?;
     }
@@ -98,7 +100,7 @@ fn take_step<R: Threads + Sync>(
     match step {
         Step::Empty => Ok(()),
         Step::Set { name, file } => {
-            let text = fs::read(rt, file.as_str())?;
+            let text = read_in(rt, FOLDER, file.as_str())?;
             if text.len() <= 1_048_577 && session.set(name.as_str(), &text).is_err() {
                 return Err(io::Error::from(AllocError));
             }
@@ -140,7 +142,7 @@ fn run_anew<R: Threads + Sync>(rt: &HostRuntime, threads: &R, case: &Case) -> io
 }
 
 /// Runs the case of a line with these threads, and prints both.
-fn run<R: Threads + Sync>(rt: &HostRuntime, threads: &R, line: &str) -> io::Result<()> {
+pub fn run<R: Threads + Sync>(rt: &HostRuntime, threads: &R, line: &str) -> io::Result<()> {
     let case = case_of(rt.alloc(), line)?;
     println!(rt; "== {line}")?;
     if case.anew {
@@ -148,14 +150,4 @@ fn run<R: Threads + Sync>(rt: &HostRuntime, threads: &R, line: &str) -> io::Resu
     } else {
         run_words(rt, threads, &case)
     }
-}
-
-fn main(rt: HostRuntime) -> io::Result<()> {
-    for table in env::args(&rt)?.skip(1) {
-        let text = fs::read_to_string(&rt, table.as_str())?;
-        for line in text.lines() {
-            run(&rt, &rt, line)?;
-        }
-    }
-    Ok(())
 }

@@ -1,10 +1,8 @@
-//! Checks or writes certificates by each line of the tables that the words name, over the files beside them, and prints what is
-//! written, and a certificate in hexadecimal digits.
-#![tactic(auto)]
-
+//! Checks or writes certificates by each line of a table, over the files beside it, and prints what is written, and a certificate in hexadecimal digits.
 mod case;
 
-use case::{Case, case_of};
+use crate::beside::read_in;
+use crate::certificates::case::{Case, case_of};
 use jn_base::{Seq, Text};
 use jn_outside::{MemFile, MemFiles, MemSink};
 use jn_sharing::Straight;
@@ -12,8 +10,11 @@ use jn_targets::{MemTargets, Replaced};
 use nullcheck_cert_check::{Status, check};
 use nullcheck_cert_write::write_cert;
 use std::alloc::AllocError;
+use std::io;
 use std::thread::Threads;
-use std::{env, fs, io};
+
+/// The folder of these tables.
+pub const FOLDER: &str = "certificates";
 
 /// The name of a case's certificate.
 const CERT: &str = "CERT";
@@ -26,7 +27,7 @@ fn held_files(rt: &HostRuntime, case: &mut Case) -> io::Result<Vec<MemFile>> {
         held.push(MemFile { name, bytes })?;
     }
     for word in &case.words {
-        if let Ok(bytes) = fs::read(rt, word.as_str()) {
+        if let Ok(bytes) = read_in(rt, FOLDER, word.as_str()) {
             let name = word.clone()?;
             held.push(MemFile { name, bytes })?;
         }
@@ -131,7 +132,7 @@ fn has_write(words: &[String]) -> bool {
 }
 
 /// Runs the case of a line with these threads, and prints both.
-fn run<R: Threads + Sync>(rt: &HostRuntime, threads: &R, line: &str) -> io::Result<()> {
+pub fn run<R: Threads + Sync>(rt: &HostRuntime, threads: &R, line: &str) -> io::Result<()> {
     let alloc = rt.alloc();
     println!(rt; "== {line}")?;
     let mut case = case_of(rt, line)?;
@@ -145,14 +146,4 @@ fn run<R: Threads + Sync>(rt: &HostRuntime, threads: &R, line: &str) -> io::Resu
     } else {
         run_check(rt, threads, &case, &mut files, &mut sink)
     }
-}
-
-fn main(rt: HostRuntime) -> io::Result<()> {
-    for table in env::args(&rt)?.skip(1) {
-        let text = fs::read_to_string(&rt, table.as_str())?;
-        for line in text.lines() {
-            run(&rt, &rt, line)?;
-        }
-    }
-    Ok(())
 }
