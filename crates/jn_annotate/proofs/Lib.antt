@@ -3,3 +3,4 @@ pub mod Walking
 pub mod Stepping
 pub mod Sharing
 pub mod Texts
+pub mod Leaving

@@ -1,5 +1,5 @@
--- The texts of files with what was inferred of them, and what is refused.
-use Rattle.std.specs.Prelude.{◌≡◌, ℕ, ◌+◌, ◌<◌, Bool, true, false, not, cond, ◌&&◌, ltb, List, [], ◌∷◌, length, take, drop, Option, Some, None, slice_get, slice_index_or}
+-- The texts of files with what was inferred of them, what is left without words, and what is refused.
+use Rattle.std.specs.Prelude.{◌≡◌, ℕ, ◌+◌, ◌<◌, Bool, true, false, not, cond, ◌&&◌, ltb, List, [], ◌∷◌, filter, length, take, drop, Option, Some, None, slice_get, slice_index_or}
 use Rattle.jn_base.specs.declared.number.SlotNo.{SlotNo}
 use Rattle.jn_quals.specs.Qualifier.{Qualifier}
 use Rattle.jn_quals.specs.Order.{no_qual, within}
@@ -7,7 +7,7 @@ use Rattle.jn_points.specs.declared.program.Field.{Field}
 use Rattle.jn_points.specs.declared.program.Method.{Method}
 use Rattle.jn_points.specs.declared.program.SlotInfo.{SlotInfo}
 use Rattle.jn_points.specs.declared.program.Program.{Program}
-use Rattle.jn_points.specs.Members.{some_of}
+use Rattle.jn_points.specs.Members.{below, some_of}
 use Rattle.jn_sigs.specs.Signature.{is_slot, slot_qual}
 use Rattle.jn_transfer.specs.Contributions.{is_inferred}
 use Rattle.jn_trees.specs.declared.token.Token.{Token}
@@ -28,9 +28,9 @@ module _ (imports : Bool) (slots : List SlotInfo) (s : List Qualifier) where
   annotated_from (text ∷ texts) (ts ∷ tss) [] fs ms = []
   annotated_from (text ∷ texts) (ts ∷ tss) (f ∷ trees) fs ms = inserted text (with_lines imports text ts f (in_file slots s text ts f fs ms)) ∷ annotated_from texts tss trees (drop (file_fields f.types) fs) (drop (file_methods f.types) ms)
 
--- method 0 is Object's constructor, which no file declares
-abbrev pub annotated : Bool → Program → List Qualifier → List (List ℕ) → List (List Token) → List SourceTree → List (List ℕ)
-annotated imports P s texts tokens trees = annotated_from imports P.slots s texts tokens trees P.fields (drop 1 P.methods)
+-- of files with this program; method 0 is Object's constructor, which no file declares
+abbrev pub annotated : Bool → List SlotInfo → Program → List Qualifier → List (List ℕ) → List (List Token) → List SourceTree → List (List ℕ)
+annotated imports said P s texts tokens trees = annotated_from imports said s texts tokens trees P.fields (drop 1 P.methods)
 
 -- Refusals
 
@@ -45,13 +45,17 @@ HasNone test = (i : ℕ) → test i ≡ false
 abbrev pub has_no_spelling : Program → List Qualifier → ℕ → Bool
 has_no_spelling P s i = is_inferred (slice_get P.slots i) && is_unspelled (slice_index_or s i no_qual)
 
--- the slot is inferred, imports are asked for, and it gets a word that is taken
-abbrev pub has_taken_word : Bool → TakenWords → Program → List Qualifier → ℕ → Bool
-has_taken_word imports taken P s i = is_inferred (slice_get P.slots i) && imports && is_taken taken P (slice_index_or s i no_qual) i
+-- such slots, in their order: they are left without words
+abbrev pub unspelled_slots : Program → List Qualifier → List ℕ
+unspelled_slots P s = filter (has_no_spelling P s) (below (length P.slots))
+
+-- the slot counts as inferred, imports are asked for, and it gets a word that is taken
+abbrev pub has_taken_word : Bool → TakenWords → List SlotInfo → Program → List Qualifier → ℕ → Bool
+has_taken_word imports taken said P s i = is_inferred (slice_get said i) && imports && is_taken taken P (slice_index_or s i no_qual) i
 
 -- a type of the files has the word's name
-abbrev pub has_taken_name : Bool → Program → List Qualifier → List SourceTree → ℕ → Bool
-has_taken_name imports P s trees i = has_taken_word imports (taken_words trees) P s i
+abbrev pub has_taken_name : Bool → List SlotInfo → Program → List Qualifier → List SourceTree → ℕ → Bool
+has_taken_name imports said P s trees i = has_taken_word imports (taken_words trees) said P s i
 
 abbrev pub same_qual : Qualifier → Qualifier → Bool
 same_qual a b = within a b && within b a
@@ -95,23 +99,27 @@ longest_text = 1048576
 abbrev pub is_too_large : List (List ℕ) → ℕ → Bool
 is_too_large texts k = ltb longest_text (length (slice_index_or texts k []))
 
--- the four refusals, in their order, and the texts where none is
+-- the three refusals, in their order, and the texts where none is; `said` are the slots that count as inferred
+module _ (said : List SlotInfo) (imports : Bool) (P : Program) (s : List Qualifier) where
+  abbrev pub IsNameTaken : List SourceTree → ℕ → Type 0
+  IsNameTaken trees i = IsFirst (has_taken_name imports said P s trees) i
 
-abbrev pub IsNoSpelling : Program → List Qualifier → ℕ → Type 0
-IsNoSpelling P s i = IsFirst (has_no_spelling P s) i
+  abbrev pub IsSharedType : List SourceTree → ℕ → Type 0
+  IsSharedType trees i = HasNone (has_taken_name imports said P s trees) × IsFirst (has_shared_type P s trees) i
 
-abbrev pub IsNameTaken : Bool → Program → List Qualifier → List SourceTree → ℕ → Type 0
-IsNameTaken imports P s trees i = HasNone (has_no_spelling P s) × IsFirst (has_taken_name imports P s trees) i
+  abbrev pub IsTooLarge : List (List ℕ) → List (List Token) → List SourceTree → ℕ → Type 0
+  IsTooLarge texts tokens trees k = HasNone (has_taken_name imports said P s trees) × HasNone (has_shared_type P s trees) × IsFirst (is_too_large (annotated imports said P s texts tokens trees)) k
 
-abbrev pub IsSharedType : Bool → Program → List Qualifier → List SourceTree → ℕ → Type 0
-IsSharedType imports P s trees i = HasNone (has_no_spelling P s) × HasNone (has_taken_name imports P s trees) × IsFirst (has_shared_type P s trees) i
+  pub record AreWorded (texts : List (List ℕ)) (tokens : List (List Token)) (trees : List SourceTree) (new : List (List ℕ)) : Type 0 where
+    pub named : HasNone (has_taken_name imports said P s trees)
+    pub alone : HasNone (has_shared_type P s trees)
+    pub are : new ≡ annotated imports said P s texts tokens trees
+    pub small : HasNone (is_too_large new)
 
-abbrev pub IsTooLarge : Bool → Program → List Qualifier → List (List ℕ) → List (List Token) → List SourceTree → ℕ → Type 0
-IsTooLarge imports P s texts tokens trees k = HasNone (has_no_spelling P s) × HasNone (has_taken_name imports P s trees) × HasNone (has_shared_type P s trees) × IsFirst (is_too_large (annotated imports P s texts tokens trees)) k
-
+-- the texts where each inferred slot has a spelling and gets its words
 pub record Annotated (imports : Bool) (P : Program) (s : List Qualifier) (texts : List (List ℕ)) (tokens : List (List Token)) (trees : List SourceTree) (new : List (List ℕ)) : Type 0 where
   pub spelled : HasNone (has_no_spelling P s)
-  pub named : HasNone (has_taken_name imports P s trees)
+  pub named : HasNone (has_taken_name imports P.slots P s trees)
   pub alone : HasNone (has_shared_type P s trees)
-  pub are : new ≡ annotated imports P s texts tokens trees
+  pub are : new ≡ annotated imports P.slots P s texts tokens trees
   pub small : HasNone (is_too_large new)

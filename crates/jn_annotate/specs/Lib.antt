@@ -1,4 +1,5 @@
 pub mod Words
+pub mod Chosen
 pub mod Insertions
 pub mod Imports
 pub mod Taken

@@ -1,17 +1,19 @@
 //! The texts of files with the words of what was inferred of them.
 ghost use Rattle.std.specs.Prelude.{◌≡◌, ◌<◌, ◌^◌, drop, length, map, IfErr, IfOk};
 ghost use Rattle.jn_trees.specs.View.{file_view};
-ghost use Rattle.jn_annotate.specs.Annotated.{annotated_from, Annotated, has_no_spelling, has_taken_name, HasNone, is_too_large};
+ghost use Rattle.jn_annotate.specs.Annotated.{annotated_from, AreWorded, has_taken_name, HasNone, is_too_large};
+ghost use Rattle.jn_annotate.specs.Chosen.{chosen_slots};
 ghost use Rattle.jn_annotate.specs.Answers.{IsLargeOf, IsWhyRefused};
 ghost use Rattle.jn_annotate.specs.Imports.{with_lines};
 ghost use Rattle.jn_annotate.specs.Insertions.{in_file};
 ghost use Rattle.jn_splice_law.specs.Inserted.{inserted};
 
+use crate::chosen::chosen_program;
 use crate::files::{fields_behind_types, file_puts, methods_behind_types};
 use crate::insert::insert;
 use crate::lines;
 use crate::members::next_methods;
-use crate::refusals::{first_too_large, first_unspelled};
+use crate::refusals::first_too_large;
 use crate::shared::first_shared;
 use crate::taken::first_taken;
 use jn_base::lists::put;
@@ -24,8 +26,6 @@ use std::alloc::Global;
 /// Why files have no annotated texts.
 #[derive(Clone, Copy, Debug, PartialEq, Eq)]
 pub enum AnnotateFault {
-    /// No annotation says the qualifier of this slot: it is inferred, and nothing but null, or nothing at all, is sent to it.
-    NoSpelling(SlotNo),
     /// Imports are asked for, and a type of the files has the name of an annotation that says the qualifier of this slot (JLS 6.4.1).
     NameTaken(SlotNo),
     /// The slot is of a field that shares its type with one of another qualifier (JLS 8.3).
@@ -57,7 +57,8 @@ fn annotated_text(
     Ok(Seq::of_vec(insert(alloc, text, &puts)?))
 }
 
-/// The texts of files with the words of their inferred slots, whatever their sizes; the first fields and methods are those that they declare.
+/// The texts of files with the words of the slots that count as inferred, whatever their sizes; the first fields and methods are those that they
+/// declare.
 #[tactic(auto, using(crate::proofs::Texts::next_text))]
 fn annotated_texts(
     alloc: Global,
@@ -66,11 +67,12 @@ fn annotated_texts(
     tokens: &[Seq<Token>],
     trees: &[FileTree],
     program: &Program,
+    said: &Program,
     sig: &Sig,
     methods: &[Method],
 ) -> Result<Vec<Seq<u8>>, OutOfMemory>
     ensures { IfOk result (λ new. new.items
-        ≡ annotated_from imports program.now.slots sig.now texts.now tokens.now (map file_view trees.now)
+        ≡ annotated_from imports said.now.slots sig.now texts.now tokens.now (map file_view trees.now)
         program.now.fields methods.now) }
 {
     let mut new = Vec::new(alloc);
@@ -87,7 +89,7 @@ fn annotated_texts(
                     let made = annotated_text(
                         alloc,
                         imports,
-                        program,
+                        said,
                         sig,
                         text.as_slice(),
                         first.as_slice(),
@@ -123,8 +125,8 @@ fn sized(texts: Vec<Seq<u8>>) -> Result<Vec<Seq<u8>>, Fail<AnnotateFault>>
     }
 }
 
-/// The same of files each of whose inferred slots has a spelling by words that can be imported, where imports are asked for.
-#[tactic(auto, using(crate::proofs::Texts::is_annotated, crate::proofs::Texts::is_large))]
+/// The same of files none of whose slots that count as inferred gets a word that can't be imported, where imports are asked for.
+#[tactic(auto, using(crate::proofs::Texts::is_worded, crate::proofs::Texts::is_large))]
 fn annotate_named(
     alloc: Global,
     imports: bool,
@@ -132,17 +134,17 @@ fn annotate_named(
     tokens: &[Seq<Token>],
     trees: &[FileTree],
     program: &Program,
+    said: &Program,
     sig: &Sig,
 ) -> Result<Vec<Seq<u8>>, Fail<AnnotateFault>>
-    requires spelled { HasNone (has_no_spelling program.now sig.now) }
     requires named { HasNone
-        (has_taken_name imports program.now sig.now (map file_view trees.now)) }
+        (has_taken_name imports said.now.slots program.now sig.now (map file_view trees.now)) }
     requires files { length texts.now < 2 ^ 32 }
-    ensures annotated { IfOk result (λ new. Annotated imports program.now sig.now texts.now
-        tokens.now
+    ensures annotated { IfOk result (λ new. AreWorded said.now.slots imports program.now sig.now
+        texts.now tokens.now
         (map file_view trees.now) new.items) }
-    ensures refused { IfErr result (λ fail. IsWhyRefused imports program.now sig.now texts.now
-        tokens.now
+    ensures refused { IfErr result (λ fail. IsWhyRefused said.now.slots imports program.now sig.now
+        texts.now tokens.now
         (map file_view trees.now) fail) }
 {
     match first_shared(alloc, program, sig, trees) {
@@ -150,7 +152,9 @@ fn annotate_named(
         Ok(Some(slot)) => Err(Fail::Refused(AnnotateFault::SharedType(SlotNo(slot)))),
         Ok(None) => {
             let methods = next_methods(program.methods.as_slice());
-            match annotated_texts(alloc, imports, texts, tokens, trees, program, sig, methods) {
+            match annotated_texts(
+                alloc, imports, texts, tokens, trees, program, said, sig, methods,
+            ) {
                 Err(_) => Err(Fail::OutOfMemory),
                 Ok(new) => sized(new),
             }
@@ -158,44 +162,46 @@ fn annotate_named(
     }
 }
 
-/// The same of files each of whose inferred slots has a spelling.
-fn annotate_spelled(
+/// The same of files of which these slots count as inferred.
+fn annotate_said(
     alloc: Global,
     imports: bool,
     texts: &[Seq<u8>],
     tokens: &[Seq<Token>],
     trees: &[FileTree],
     program: &Program,
+    said: &Program,
     sig: &Sig,
 ) -> Result<Vec<Seq<u8>>, Fail<AnnotateFault>>
-    requires slots { length sig.now ≡ length program.now.slots }
-    requires spelled { HasNone (has_no_spelling program.now sig.now) }
+    requires slots { length sig.now ≡ length said.now.slots }
     requires files { length texts.now < 2 ^ 32 }
-    ensures annotated { IfOk result (λ new. Annotated imports program.now sig.now texts.now
-        tokens.now
+    ensures annotated { IfOk result (λ new. AreWorded said.now.slots imports program.now sig.now
+        texts.now tokens.now
         (map file_view trees.now) new.items) }
-    ensures refused { IfErr result (λ fail. IsWhyRefused imports program.now sig.now texts.now
-        tokens.now
+    ensures refused { IfErr result (λ fail. IsWhyRefused said.now.slots imports program.now sig.now
+        texts.now tokens.now
         (map file_view trees.now) fail) }
 {
-    match first_taken(imports, program, sig, trees) {
+    match first_taken(imports, program, said, sig, trees) {
         Some(slot) => Err(Fail::Refused(AnnotateFault::NameTaken(SlotNo(slot)))),
-        None => annotate_named(alloc, imports, texts, tokens, trees, program, sig),
+        None => annotate_named(alloc, imports, texts, tokens, trees, program, said, sig),
     }
 }
 
 /// The texts of files with the words of what was inferred of them: for each inferred slot what says its qualifier, before its type, or as a receiver
-/// (Checker Framework manual, 3.2 and 3.8). The program and its signature are those of the trees, by either choice of what is inferred, and
-/// the tokens are those of the texts. Where imports are asked for, a file that gets a word which it doesn't import gets a line that imports
-/// all annotations of the word's package.
+/// (Checker Framework manual, 3.2 and 3.8). A slot gets no words where no annotation says its qualifier ([`crate::unspelled_slots`]), and,
+/// where `terse` holds, where they would say no more than the default does: initialized, and not null. The program and its signature are those
+/// of the trees, by either choice of what is inferred, and the tokens are those of the texts. Where imports are asked for, a file that gets a
+/// word which it doesn't import gets a line that imports all annotations of the word's package.
 ///
 /// # Errors
 ///
-/// In this order: the least inferred slot that no annotation says; where imports are asked for, the least inferred slot of which a type of
-/// the files has the name of an annotation that says it; the least slot of an inferred field whose qualifier isn't that of the
-/// first field of its declaration; the first file whose new text is larger than 1 MiB; want of memory.
+/// In this order: where imports are asked for, the least slot that gets words of which a type of the files has the name of an annotation that
+/// says it; the least slot of an inferred field whose qualifier isn't that of the first field of its declaration; the first file whose new text
+/// is larger than 1 MiB; want of memory.
 pub fn annotate(
     alloc: Global,
+    terse: bool,
     imports: bool,
     texts: &[Seq<u8>],
     tokens: &[Seq<Token>],
@@ -205,15 +211,15 @@ pub fn annotate(
 ) -> Result<Vec<Seq<u8>>, Fail<AnnotateFault>>
     requires slots { length sig.now ≡ length program.now.slots }
     requires files { length texts.now < 2 ^ 32 }
-    ensures annotated { IfOk result (λ new. Annotated imports program.now sig.now texts.now
-        tokens.now
+    ensures annotated { IfOk result (λ new. AreWorded (chosen_slots terse program.now sig.now)
+        imports program.now sig.now texts.now tokens.now
         (map file_view trees.now) new.items) }
-    ensures refused { IfErr result (λ fail. IsWhyRefused imports program.now sig.now texts.now
-        tokens.now
+    ensures refused { IfErr result (λ fail. IsWhyRefused (chosen_slots terse program.now sig.now)
+        imports program.now sig.now texts.now tokens.now
         (map file_view trees.now) fail) }
 {
-    match first_unspelled(program, sig) {
-        Some(slot) => Err(Fail::Refused(AnnotateFault::NoSpelling(SlotNo(slot)))),
-        None => annotate_spelled(alloc, imports, texts, tokens, trees, program, sig),
+    match chosen_program(alloc, terse, program, sig) {
+        Err(_) => Err(Fail::OutOfMemory),
+        Ok(said) => annotate_said(alloc, imports, texts, tokens, trees, program, &said, sig),
     }
 }

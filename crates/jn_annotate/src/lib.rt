@@ -2,6 +2,7 @@
 #![tactic(auto)]
 
 pub mod annotating;
+mod chosen;
 pub mod files;
 pub mod imports;
 pub mod insert;
@@ -16,3 +17,4 @@ pub mod taken;
 pub mod words;
 
 pub use annotating::{AnnotateFault, annotate};
+pub use refusals::unspelled_slots;

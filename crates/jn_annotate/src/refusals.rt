@@ -1,11 +1,13 @@
-//! What is refused: the first inferred slot whose qualifier has no spelling, and the first text that is too large.
-ghost use Rattle.std.specs.Prelude.{◌≡◌, ◌<◌, ◌^◌, length, IfNone, IfSome};
-ghost use Rattle.jn_annotate.specs.Annotated.{has_no_spelling, HasNone, is_too_large, IsFirst};
+//! What is left without words: inferred slots whose qualifier has no spelling; and what is refused: the first text that is too large.
+ghost use Rattle.std.specs.Prelude.{◌≡◌, ◌<◌, ◌^◌, length, IfNone, IfOk, IfSome};
+ghost use Rattle.jn_annotate.specs.Annotated.{has_no_spelling, HasNone, is_too_large, IsFirst, unspelled_slots};
 
+use crate::shared::put_if;
 use crate::words::is_unspelled;
-use jn_base::{Seq, SlotNo};
+use jn_base::{OutOfMemory, Seq, SlotNo};
 use jn_points::Program;
 use jn_sigs::Sig;
+use std::alloc::Global;
 
 /// The slot is inferred, and has no spelling.
 fn has_no_spelling(program: &Program, sig: &Sig, slot: u32) -> bool
@@ -17,18 +19,23 @@ fn has_no_spelling(program: &Program, sig: &Sig, slot: u32) -> bool
     }
 }
 
-/// The first inferred slot that has no spelling.
-pub fn first_unspelled(program: &Program, sig: &Sig) -> Option<u32>
+/// The inferred slots whose qualifier no annotation says, in their order: nothing but null, or nothing at all, is sent to them. They are left
+/// without words.
+///
+/// # Errors
+///
+/// No memory was found.
+#[tactic(auto, using(crate::proofs::Leaving::next_left, crate::proofs::Leaving::all_left))]
+pub fn unspelled_slots(alloc: Global, program: &Program, sig: &Sig) -> Result<Vec<u32>, OutOfMemory>
     requires { length sig.now ≡ length program.now.slots }
-    ensures first { IfSome result (λ i. IsFirst (has_no_spelling program.now sig.now) i) }
-    ensures none { IfNone result (HasNone (has_no_spelling program.now sig.now)) }
+    ensures { IfOk result (λ left. left.items ≡ unspelled_slots program.now sig.now) }
 {
+    let mut left = Vec::new(alloc);
     for slot in 0..sig.slots() {
-        if has_no_spelling(program, sig, slot) {
-            return Some(slot);
-        }
+        let wanted = has_no_spelling(program, sig, slot);
+        put_if(&mut left, wanted, slot)?;
     }
-    None
+    Ok(left)
 }
 
 /// The text is longer than 1 MiB.

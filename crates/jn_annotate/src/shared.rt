@@ -32,7 +32,7 @@ fn is_off(program: &Program, sig: &Sig, first: Qual, slot: SlotNo) -> bool
 }
 
 /// Puts a slot after the others where it is wanted.
-fn put_if(slots: &mut Vec<u32>, wanted: bool, slot: u32) -> Result<(), OutOfMemory>
+pub(crate) fn put_if(slots: &mut Vec<u32>, wanted: bool, slot: u32) -> Result<(), OutOfMemory>
     ensures { OnOk result (slots.new.items ≡ slots.old.items ++ cond wanted (slot ∷ []) []) }
 {
     if wanted {

@@ -171,11 +171,18 @@ fn is_taken(taken: TakenWords, program: &Program, q: Qual, slot: u32) -> bool
         || gets_taken_initialization(taken, program, q, slot)
 }
 
-/// The slot is inferred, imports are asked for, and it gets such a word.
-fn has_taken_word(imports: bool, taken: TakenWords, program: &Program, sig: &Sig, slot: u32) -> bool
-    ensures { result ≡ has_taken_word imports taken program.now sig.now slot }
+/// The slot counts as inferred, imports are asked for, and it gets such a word.
+fn has_taken_word(
+    imports: bool,
+    taken: TakenWords,
+    program: &Program,
+    said: &Program,
+    sig: &Sig,
+    slot: u32,
+) -> bool
+    ensures { result ≡ has_taken_word imports taken said.now.slots program.now sig.now slot }
 {
-    match program.slots.as_slice().get(slot as usize) {
+    match said.slots.as_slice().get(slot as usize) {
         None => false,
         Some(info) => {
             info.inferred && imports && is_taken(taken, program, sig.get(SlotNo(slot)), slot)
@@ -184,29 +191,42 @@ fn has_taken_word(imports: bool, taken: TakenWords, program: &Program, sig: &Sig
 }
 
 /// The first slot of which it is so.
-fn first_with_word(imports: bool, taken: TakenWords, program: &Program, sig: &Sig) -> Option<u32>
-    requires { length sig.now ≡ length program.now.slots }
+fn first_with_word(
+    imports: bool,
+    taken: TakenWords,
+    program: &Program,
+    said: &Program,
+    sig: &Sig,
+) -> Option<u32>
+    requires { length sig.now ≡ length said.now.slots }
     ensures first { IfSome result
-        (λ i. IsFirst (has_taken_word imports taken program.now sig.now) i) }
+        (λ i. IsFirst (has_taken_word imports taken said.now.slots program.now sig.now) i) }
     ensures none { IfNone result
-        (HasNone (has_taken_word imports taken program.now sig.now)) }
+        (HasNone (has_taken_word imports taken said.now.slots program.now sig.now)) }
 {
     for slot in 0..sig.slots() {
-        if has_taken_word(imports, taken, program, sig, slot) {
+        if has_taken_word(imports, taken, program, said, sig, slot) {
             return Some(slot);
         }
     }
     None
 }
 
-/// The first inferred slot that gets a word whose name a type of the files has; none where no import is asked for.
-pub fn first_taken(imports: bool, program: &Program, sig: &Sig, trees: &[FileTree]) -> Option<u32>
-    requires { length sig.now ≡ length program.now.slots }
-    ensures first { IfSome result
-        (λ i. IsFirst (has_taken_name imports program.now sig.now (map file_view trees.now)) i) }
-    ensures none { IfNone result
-        (HasNone (has_taken_name imports program.now sig.now (map file_view trees.now))) }
+/// The first slot that counts as inferred and gets a word whose name a type of the files has; none where no import is asked for. The slots of
+/// `said` are those that count.
+pub fn first_taken(
+    imports: bool,
+    program: &Program,
+    said: &Program,
+    sig: &Sig,
+    trees: &[FileTree],
+) -> Option<u32>
+    requires { length sig.now ≡ length said.now.slots }
+    ensures first { IfSome result (λ i. IsFirst
+        (has_taken_name imports said.now.slots program.now sig.now (map file_view trees.now)) i) }
+    ensures none { IfNone result (HasNone
+        (has_taken_name imports said.now.slots program.now sig.now (map file_view trees.now))) }
 {
     let taken = taken_words(trees);
-    first_with_word(imports, taken, program, sig)
+    first_with_word(imports, taken, program, said, sig)
 }

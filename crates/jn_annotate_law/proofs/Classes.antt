@@ -25,12 +25,12 @@ use Rattle.jn_heads.specs.Heads.{unwritten_constructor}
 use Rattle.jn_heads.specs.Types.{fields_slots, method_slots, methods_slots, class_slots, slots_of_all}
 use Rattle.jn_classtable.specs.Table.{fields_of, fields_from, method_of, methods_of, methods_from, bodies_of, count}
 use Rattle.jn_heads.specs.Extract.{field_heads, method_heads, has_constructor, with_constructor, class_head}
-use Rattle.jn_places_law.specs.Written.{written_slot}
 use Rattle.jn_annotate.specs.Insertions.{fields_in, methods_in, constructors_in, in_all, unwritten, type_fields, type_methods}
 use Rattle.jn_annotate_law.specs.Trees.{noted_members, noted_type, noted_types}
 use Rattle.jn_heads_law.specs.Plain.{plain_head}
-use Rattle.jn_annotate_law.specs.Says.{Spelled, MembersSay, TypeSays, TypesSay}
-use Rattle.jn_annotate_law.proofs.Positions.{quals_from, Stands, stands_left, stands_right, slots_append}
+use Rattle.jn_annotate_law.specs.Worded.{worded_from}
+use Rattle.jn_annotate_law.specs.Says.{AllSpelled, MembersSay, TypeSays, TypesSay}
+use Rattle.jn_annotate_law.proofs.Positions.{Stands, stands_left, stands_right, slots_append}
 use Rattle.jn_annotate_law.proofs.Walks.{methods_walk}
 use Rattle.jn_annotate_law.proofs.Fields.{fields_walk, fields_of_long, declarators_long}
 
@@ -176,8 +176,8 @@ type_parts infer hs t types c k b fs restf ms restm ts f m g =
 
 -- ---- types
 
-module _ (slots : List SlotInfo) (s : List Qualifier) (hs gs : List ClassHead) (same : map plain_head hs ≡ map plain_head gs) (sp : Spelled slots s) (infer : Infer) where
-  type_walk : (t : TypeDeclaration) (c k b : ℕ) (restf : List Field) (restm : List Method) (ts us : List Token) → let h : ClassHead = class_marks infer (place_type ts t) in let fs : List Field = fields_of hs c k h.fields ++ restf in let ms : List Method = methods_of hs c (k + length (fields_slots hs h.fields)) b h.methods ++ restm in GoodType t → TypeSays slots s t fs ms → Stands slots s k (class_slots hs h) → class_slots gs (class_marks infer (place_type us (noted_type slots s t fs ms))) ≡ map written_slot (quals_from s k (length (class_slots hs h)))
+module _ (slots : List SlotInfo) (s : List Qualifier) (hs gs : List ClassHead) (same : map plain_head hs ≡ map plain_head gs) (sp : AllSpelled slots s) (infer : Infer) where
+  type_walk : (t : TypeDeclaration) (c k b : ℕ) (restf : List Field) (restm : List Method) (ts us : List Token) → let h : ClassHead = class_marks infer (place_type ts t) in let fs : List Field = fields_of hs c k h.fields ++ restf in let ms : List Method = methods_of hs c (k + length (fields_slots hs h.fields)) b h.methods ++ restm in GoodType t → TypeSays slots s t fs ms → Stands slots s k (class_slots hs h) → class_slots gs (class_marks infer (place_type us (noted_type slots s t fs ms))) ≡ worded_from slots s k (class_slots hs h)
   type_walk (ClassType marks n parent interfaces members) c k b restf restm ts us g say h =
       let at : List Token → List Token = λ x. behind x (spell_all_marks marks ++ Class ∷ []) in
       let inside : List Token → List Token = λ x. behind (behind (drop 1 (at x)) (spell_parent parent)) (spell_names Implements interfaces ++ LeftBrace ∷ []) in
@@ -192,8 +192,8 @@ module _ (slots : List SlotInfo) (s : List Qualifier) (hs gs : List ClassHead) (
       let stands = subst (Stands slots s k') (with_slots hs (place_name (at ts) n) M) (stands_right slots s k (fields_slots hs F) S h) in
       let one = fields_walk slots s hs gs same sp infer false n members ms c k restf (inside ts) (inside us) say (stands_left slots s k (fields_slots hs F) S h) in
       let two = methods_walk slots s hs gs same sp infer (record { interface = false; name = n }) false refl n members fs c k' b w.0 (inside ts) (inside us) g.1 (subst (MembersSay slots s members fs) w.1 say) stands in
-      let three : methods_slots gs (with_constructor (place_name (at us) n) (M' ms)) ≡ map written_slot (quals_from s k' (length S)) =
-      with_slots gs (place_name (at us) n) (M' ms) ∙ ap (λ x. methods_slots gs (M' x)) w.1 ∙ two ∙ ap (λ x. map written_slot (quals_from s k' (length x))) (sym (with_slots hs (place_name (at ts) n) M)) in
+      let three : methods_slots gs (with_constructor (place_name (at us) n) (M' ms)) ≡ worded_from slots s k' S =
+      with_slots gs (place_name (at us) n) (M' ms) ∙ ap (λ x. methods_slots gs (M' x)) w.1 ∙ two ∙ ap (λ x. worded_from slots s k' x) (sym (with_slots hs (place_name (at ts) n) M)) in
       slots_append slots s k (fields_slots hs F) S (fields_slots gs (fields_at infer false (inside us) (noted_members slots s n members fs ms))) (methods_slots gs (with_constructor (place_name (at us) n) (M' ms))) one three
   type_walk (InterfaceType marks n parents members) c k b restf restm ts us g say h =
       let inside : List Token → List Token = λ x. behind (drop 1 (behind x (spell_all_marks marks ++ Interface ∷ []))) (spell_names Extends parents ++ LeftBrace ∷ []) in
@@ -207,7 +207,7 @@ module _ (slots : List SlotInfo) (s : List Qualifier) (hs gs : List ClassHead) (
       (fields_walk slots s hs gs same sp infer true n members ms c k restf (inside ts) (inside us) say (stands_left slots s k (fields_slots hs F) (methods_slots hs M) h))
       (methods_walk slots s hs gs same sp infer (record { interface = true; name = n }) true refl n members fs c k' b restm (inside ts) (inside us) g.1 say (stands_right slots s k (fields_slots hs F) (methods_slots hs M) h))
 
-  pub types_walk : (types : List TypeDeclaration) (c k b : ℕ) (fs restf : List Field) (ms restm : List Method) (ts us : List Token) → fs ≡ fields_from hs c k (marks_at infer ts types) ++ restf → ms ≡ methods_from hs c k b (marks_at infer ts types) ++ restm → GoodTypes types → TypesSay slots s types fs ms → Stands slots s k (slots_of_all hs (marks_at infer ts types)) → slots_of_all gs (marks_at infer us (noted_types slots s types fs ms)) ≡ map written_slot (quals_from s k (length (slots_of_all hs (marks_at infer ts types))))
+  pub types_walk : (types : List TypeDeclaration) (c k b : ℕ) (fs restf : List Field) (ms restm : List Method) (ts us : List Token) → fs ≡ fields_from hs c k (marks_at infer ts types) ++ restf → ms ≡ methods_from hs c k b (marks_at infer ts types) ++ restm → GoodTypes types → TypesSay slots s types fs ms → Stands slots s k (slots_of_all hs (marks_at infer ts types)) → slots_of_all gs (marks_at infer us (noted_types slots s types fs ms)) ≡ worded_from slots s k (slots_of_all hs (marks_at infer ts types))
   types_walk [] c k b fs restf ms restm ts us ef em g say h = refl
   types_walk (t ∷ types) c k b fs restf ms restm ts us ef em g say h =
       let x : ClassHead = class_marks infer (place_type ts t) in

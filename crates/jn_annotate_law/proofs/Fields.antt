@@ -24,14 +24,14 @@ use Rattle.jn_heads.specs.declared.head.ClassHead.{ClassHead}
 use Rattle.jn_heads.specs.Types.{field_qual, is_position, field_slots, fields_slots}
 use Rattle.jn_classtable.specs.Table.{slot_at, field_of, fields_of}
 use Rattle.jn_heads.specs.Extract.{modifier_notes, type_head, field_head}
-use Rattle.jn_places_law.specs.Written.{written_slot}
 use Rattle.jn_annotate.specs.Insertions.{inferred_qual}
 use Rattle.jn_annotate_law.specs.Trees.{nullity_names, names_of, leading, noted_use, noted_marks, noted_members}
 use Rattle.jn_heads_law.specs.Plain.{plain_type, plain_head}
-use Rattle.jn_annotate_law.specs.Says.{Spelled, FieldsSay, MembersSay}
+use Rattle.jn_annotate_law.specs.Worded.{worded_from}
+use Rattle.jn_annotate_law.specs.Says.{AllSpelled, FieldsSay, MembersSay}
 use Rattle.jn_annotate_law.proofs.Meanings.{field_slot}
 use Rattle.jn_annotate_law.proofs.Extracting.{marked_same}
-use Rattle.jn_annotate_law.proofs.Positions.{quals_from, Noted, noted_type, noted_modifiers, Stands, stands_left, stands_right, slot_new, slots_append, position_same}
+use Rattle.jn_annotate_law.proofs.Positions.{Noted, noted_type, noted_modifiers, Stands, stands_left, stands_right, slot_new, slots_append, position_same}
 
 pub fields_slots_append : (hs : List ClassHead) (xs ys : List FieldHead) → fields_slots hs (xs ++ ys) ≡ fields_slots hs xs ++ fields_slots hs ys
 fields_slots_append hs [] ys = refl
@@ -54,19 +54,19 @@ declarators_long A U ts (d ∷ ds) = ap suc (declarators_long A U (behind ts (sp
 pub marked_declarators_long : (w : Bool) (A : List Modifier) (U : PlacedTypeUse) (ts : List Token) (ds : List DeclaratorTree) → length (some_heads w A U (place_more_declarators ts ds)) ≡ length ds
 marked_declarators_long w A U ts ds = length-map (map (field_head A U) (place_more_declarators ts ds)) (mark_field w) ∙ declarators_long A U ts ds
 
-module _ (slots : List SlotInfo) (s : List Qualifier) (hs gs : List ClassHead) (same : map plain_head hs ≡ map plain_head gs) (sp : Spelled slots s) where
+module _ (slots : List SlotInfo) (s : List Qualifier) (hs gs : List ClassHead) (same : map plain_head hs ≡ map plain_head gs) (sp : AllSpelled slots s) where
   abbrev Fits : Qualifier → Type 0
   Fits q = (q.committed ≡ true) × (q.free ≡ false)
 
   -- one field of a declaration
   module _ (A B : List Modifier) (U V : PlacedTypeUse) (first : Option SlotNo) (w w' : Bool) (private_is : w' ≡ w) (alike : plain_type (type_head (modifier_notes A) U) ≡ plain_type (type_head (modifier_notes B) V)) (noted : Noted (type_head (modifier_notes A) U).notes (type_head (modifier_notes B) V).notes (names_of nullity_names (inferred_qual slots s first))) where
-    field_new : (c k : ℕ) (d e : PlacedDeclarator) → inferred_qual slots s (field_of hs c k (a_head w A U d)).slot ≡ inferred_qual slots s first → ((q : Qualifier) → inferred_qual slots s (field_of hs c k (a_head w A U d)).slot ≡ Some q → Fits q) → Stands slots s k (field_slots hs (a_head w A U d)) → field_slots gs (a_head w' B V e) ≡ map written_slot (quals_from s k (length (field_slots hs (a_head w A U d))))
+    field_new : (c k : ℕ) (d e : PlacedDeclarator) → inferred_qual slots s (field_of hs c k (a_head w A U d)).slot ≡ inferred_qual slots s first → ((q : Qualifier) → inferred_qual slots s (field_of hs c k (a_head w A U d)).slot ≡ Some q → Fits q) → Stands slots s k (field_slots hs (a_head w A U d)) → field_slots gs (a_head w' B V e) ≡ worded_from slots s k (field_slots hs (a_head w A U d))
     field_new c k d e one fits h =
         let K : TypeHead = type_head (modifier_notes A) U in
         let L : TypeHead = type_head (modifier_notes B) V in
-        slot_new slots s nullity_names field_qual Fits (λ has q b w f. field_slot has q b w f.0 f.1) (is_position hs K) (is_position gs L) k w w' K.notes L.notes sp (position_same slots s hs gs same sp K L alike) private_is (subst (λ x. Noted K.notes L.notes (names_of nullity_names x)) (sym one) noted) fits h
+        slot_new slots s nullity_names field_qual Fits (λ has q b w f. field_slot has q b w f.0 f.1) (is_position hs K) (is_position gs L) k w w' K.notes L.notes (position_same slots s hs gs same sp K L alike) private_is (subst (λ x. Noted K.notes L.notes (names_of nullity_names x)) (sym one) noted) fits h
 
-    fields_new : (ds : List DeclaratorTree) (c k : ℕ) (ts us : List Token) → FieldsSay slots s first (fields_of hs c k (some_heads w A U (place_more_declarators ts ds))) → Stands slots s k (fields_slots hs (some_heads w A U (place_more_declarators ts ds))) → fields_slots gs (some_heads w' B V (place_more_declarators us ds)) ≡ map written_slot (quals_from s k (length (fields_slots hs (some_heads w A U (place_more_declarators ts ds)))))
+    fields_new : (ds : List DeclaratorTree) (c k : ℕ) (ts us : List Token) → FieldsSay slots s first (fields_of hs c k (some_heads w A U (place_more_declarators ts ds))) → Stands slots s k (fields_slots hs (some_heads w A U (place_more_declarators ts ds))) → fields_slots gs (some_heads w' B V (place_more_declarators us ds)) ≡ worded_from slots s k (fields_slots hs (some_heads w A U (place_more_declarators ts ds)))
     fields_new [] c k ts us say h = refl
     fields_new (d ∷ ds) c k ts us say h =
         let D : PlacedDeclarator = place_next_declarator ts d in
@@ -78,7 +78,7 @@ module _ (slots : List SlotInfo) (s : List Qualifier) (hs gs : List ClassHead) (
         (field_new c k D (place_next_declarator us d) say.0 say.1 (stands_left slots s k one more h))
         (fields_new ds c (k + length one) ts' us' say.2 (stands_right slots s k one more h))
 
-  pub fields_walk : (infer : Infer) (interface : Bool) (cn : NameNo) (ms : List MemberTree) (methods : List Method) (c k : ℕ) (rest : List Field) (ts us : List Token) → MembersSay slots s ms (fields_of hs c k (fields_at infer interface ts ms) ++ rest) methods → Stands slots s k (fields_slots hs (fields_at infer interface ts ms)) → fields_slots gs (fields_at infer interface us (noted_members slots s cn ms (fields_of hs c k (fields_at infer interface ts ms) ++ rest) methods)) ≡ map written_slot (quals_from s k (length (fields_slots hs (fields_at infer interface ts ms))))
+  pub fields_walk : (infer : Infer) (interface : Bool) (cn : NameNo) (ms : List MemberTree) (methods : List Method) (c k : ℕ) (rest : List Field) (ts us : List Token) → MembersSay slots s ms (fields_of hs c k (fields_at infer interface ts ms) ++ rest) methods → Stands slots s k (fields_slots hs (fields_at infer interface ts ms)) → fields_slots gs (fields_at infer interface us (noted_members slots s cn ms (fields_of hs c k (fields_at infer interface ts ms) ++ rest) methods)) ≡ worded_from slots s k (fields_slots hs (fields_at infer interface ts ms))
   fields_walk infer interface cn [] methods c k rest ts us say h = refl
   fields_walk infer interface cn (MethodMember marks u n r ps body ∷ ms) [] c k rest ts us say h = fields_walk infer interface cn ms [] c k rest (behind ts (spell_member (MethodMember marks u n r ps body))) _ say.1 h
   fields_walk infer interface cn (MethodMember marks u n r ps body ∷ ms) (m ∷ methods) c k rest ts us say h = fields_walk infer interface cn ms methods c k rest (behind ts (spell_member (MethodMember marks u n r ps body))) _ say.1 h
@@ -130,4 +130,4 @@ module _ (slots : List SlotInfo) (s : List Qualifier) (hs gs : List ClassHead) (
       fields_slots_append gs H' (fields_at infer interface later' (noted_members slots s cn ms (drop (1 + length ds) all) methods))
       ∙ ap (λ x. fields_slots gs H' ++ fields_slots gs (fields_at infer interface later' (noted_members slots s cn ms x methods))) dropped
       ∙ slots_append slots s k (fields_slots hs H) (fields_slots hs T) (fields_slots gs H') (fields_slots gs (fields_at infer interface later' (noted_members slots s cn ms X methods))) one two
-      ∙ ap (λ x. map written_slot (quals_from s k (length x))) (sym (fields_slots_append hs H T))
+      ∙ ap (λ x. worded_from slots s k x) (sym (fields_slots_append hs H T))

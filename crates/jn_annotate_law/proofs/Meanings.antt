@@ -16,6 +16,7 @@ use Rattle.jn_heads.specs.Extract.{is_named, is_note, is_local_note, notes_by, n
 use Rattle.std.proofs.Math.Path.{fun_ext}
 use Rattle.jn_places_law.specs.Written.{written_slot}
 use Rattle.jn_annotate.specs.Words.{is_unspelled, initialization_name}
+use Rattle.jn_annotate.specs.Chosen.{is_default}
 use Rattle.jn_annotate_law.specs.Trees.{nullity_names, both_names}
 use Rattle.jn_annotate_law.specs.Noted.{has_name, notes_with}
 
@@ -74,26 +75,43 @@ right_false false b e = e
 abbrev made : Bool → Bool → Bool → Bool → Bool → Bool → Notes
 made a b c d e f = record { non_null = a; nullable = b; initialized = c; under = d; unknown = e; monotonic = f }
 
--- where none of the six stands, the notes with names are those of the names
+-- none of the six stands
+record NoneOf (has : ℕ → Bool) : Type 0 where
+  pub non_null : has non_null_name ≡ false
+  pub nullable : has nullable_name ≡ false
+  pub initialized : has initialized_name ≡ false
+  pub under : has under_name ≡ false
+  pub unknown : has unknown_name ≡ false
+  pub monotonic : has monotonic_name ≡ false
+
+none_of : (has : ℕ → Bool) → is_written (notes_by has) ≡ false → NoneOf has
+none_of has h =
+    let h4 = left_false (has non_null_name || has nullable_name || has initialized_name || has under_name || has unknown_name) (has monotonic_name) h in
+    let h3 = left_false (has non_null_name || has nullable_name || has initialized_name || has under_name) (has unknown_name) h4 in
+    let h2 = left_false (has non_null_name || has nullable_name || has initialized_name) (has under_name) h3 in
+    let h1 = left_false (has non_null_name || has nullable_name) (has initialized_name) h2 in
+    record {
+      non_null = left_false (has non_null_name) (has nullable_name) h1;
+      nullable = right_false (has non_null_name) (has nullable_name) h1;
+      initialized = right_false (has non_null_name || has nullable_name) (has initialized_name) h2;
+      under = right_false (has non_null_name || has nullable_name || has initialized_name) (has under_name) h3;
+      unknown = right_false (has non_null_name || has nullable_name || has initialized_name || has under_name) (has unknown_name) h4;
+      monotonic = right_false (has non_null_name || has nullable_name || has initialized_name || has under_name || has unknown_name) (has monotonic_name) h;
+    }
+
+-- then the notes with names are those of the names
 pub unwritten_more : (has : ℕ → Bool) (names : List NameNo) → is_written (notes_by has) ≡ false → notes_with has names ≡ notes_by (has_name names)
 unwritten_more has names h =
-    let a5 = right_false (has non_null_name || has nullable_name || has initialized_name || has under_name || has unknown_name) (has monotonic_name) h in
-    let h4 = left_false (has non_null_name || has nullable_name || has initialized_name || has under_name || has unknown_name) (has monotonic_name) h in
-    let a4 = right_false (has non_null_name || has nullable_name || has initialized_name || has under_name) (has unknown_name) h4 in
-    let h3 = left_false (has non_null_name || has nullable_name || has initialized_name || has under_name) (has unknown_name) h4 in
-    let a3 = right_false (has non_null_name || has nullable_name || has initialized_name) (has under_name) h3 in
-    let h2 = left_false (has non_null_name || has nullable_name || has initialized_name) (has under_name) h3 in
-    let a2 = right_false (has non_null_name || has nullable_name) (has initialized_name) h2 in
-    let h1 = left_false (has non_null_name || has nullable_name) (has initialized_name) h2 in
-    let a1 = right_false (has non_null_name) (has nullable_name) h1 in
-    let a0 = left_false (has non_null_name) (has nullable_name) h1 in
+    let none = none_of has h in
     let f : ℕ → Bool = has_name names in
-    ap (λ x. made (x || f non_null_name) (has nullable_name || f nullable_name) (has initialized_name || f initialized_name) (has under_name || f under_name) (has unknown_name || f unknown_name) (has monotonic_name || f monotonic_name)) a0
-    ∙ ap (λ x. made (f non_null_name) (x || f nullable_name) (has initialized_name || f initialized_name) (has under_name || f under_name) (has unknown_name || f unknown_name) (has monotonic_name || f monotonic_name)) a1
-    ∙ ap (λ x. made (f non_null_name) (f nullable_name) (x || f initialized_name) (has under_name || f under_name) (has unknown_name || f unknown_name) (has monotonic_name || f monotonic_name)) a2
-    ∙ ap (λ x. made (f non_null_name) (f nullable_name) (f initialized_name) (x || f under_name) (has unknown_name || f unknown_name) (has monotonic_name || f monotonic_name)) a3
-    ∙ ap (λ x. made (f non_null_name) (f nullable_name) (f initialized_name) (f under_name) (x || f unknown_name) (has monotonic_name || f monotonic_name)) a4
-    ∙ ap (λ x. made (f non_null_name) (f nullable_name) (f initialized_name) (f under_name) (f unknown_name) (x || f monotonic_name)) a5
+    (λ i. made (none.non_null i || f non_null_name) (none.nullable i || f nullable_name) (none.initialized i || f initialized_name) (none.under i || f under_name) (none.unknown i || f unknown_name) (none.monotonic i || f monotonic_name))
+
+-- and without names they say the default
+pub says_default : (has : ℕ → Bool) → is_written (notes_by has) ≡ false → (is_default (written_qual (notes_by has)) ≡ true) × (is_default (field_qual (notes_by has)) ≡ true) × (is_default (receiver_qual (notes_by has)) ≡ true)
+says_default has h =
+    let none = none_of has h in
+    let same : notes_by has ≡ made false false false false false false = (λ i. made (none.non_null i) (none.nullable i) (none.initialized i) (none.under i) (none.unknown i) (none.monotonic i)) in
+    (ap (λ n. is_default (written_qual n)) same, ap (λ n. is_default (field_qual n)) same, ap (λ n. is_default (receiver_qual n)) same)
 
 -- ---- slots
 

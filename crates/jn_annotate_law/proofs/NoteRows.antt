@@ -26,10 +26,10 @@ use Rattle.jn_lowering.specs.Bases.{is_class_use}
 use Rattle.jn_lowering.specs.Locals.{annotations_of}
 use Rattle.jn_lowering.specs.FileRows.{initialization_alone, notes_of}
 use Rattle.jn_annotate.specs.Words.{initialization_name}
-use Rattle.jn_annotate.specs.Insertions.{qual_where, inferred_qual}
+use Rattle.jn_annotate.specs.Insertions.{inferred_qual}
 use Rattle.jn_annotate_law.specs.Trees.{nullity_names, both_names, leading, noted_use}
 use Rattle.jn_places_law.proofs.Sent.{Each, each_append}
-use Rattle.jn_annotate_law.proofs.Positions.{Stands, stands_one}
+use Rattle.jn_annotate_law.proofs.Positions.{Stands, counts, stands_open}
 
 -- ---- annotations by their numbers
 
@@ -304,9 +304,9 @@ module _ (allowed : Allowed) (names : List NameNo) where
 -- only a position of reference type on which nothing is written is inferred
 pub opened : (slots : List SlotInfo) (s : List Qualifier) (b : Bool) (k : ℕ) (secret : Bool) (n : Notes) (w q : Qualifier) → Stands slots s k (cond b (slot_of secret n w ∷ []) []) → inferred_qual slots s (slot_at b k) ≡ Some q → (b ≡ true) × (is_written n ≡ false)
 opened slots s false k secret n w q h e = absurd (let f : ◌≡◌ {A = Option Qualifier} None (Some q) = e in cc)
-opened slots s true k secret n w q h e = (refl, go secret (is_written n) (ap (λ o. qual_where slots s o k) (sym (stands_one slots s k (slot_of secret n w) h)) ∙ e))
+opened slots s true k secret n w q h e = (refl, go secret (is_written n) (stands_open slots s k (slot_of secret n w) h (counts slots s k q e).0))
   where
-    go : (p x : Bool) → qual_where slots s (Some (cond (p && not x) (record { start = no_qual; inferred = true }) (record { start = w; inferred = false }))) k ≡ Some q → x ≡ false
-    go true true e = absurd (let f : ◌≡◌ {A = Option Qualifier} None (Some q) = e in cc)
+    go : (p x : Bool) → (cond {A = SlotInfo} (p && not x) (record { start = no_qual; inferred = true }) (record { start = w; inferred = false })).inferred ≡ true → x ≡ false
+    go true true e = absurd (false≢true e)
     go true false e = refl
-    go false x e = absurd (let f : ◌≡◌ {A = Option Qualifier} None (Some q) = e in cc)
+    go false x e = absurd (false≢true e)

@@ -28,7 +28,8 @@ use Rattle.jn_lowering.specs.FileRows.{types_rows, is_under, import_row, import_
 use Rattle.jn_annotate.specs.Insertions.{file_fields, file_methods}
 use Rattle.jn_annotate_law.specs.Trees.{noted_types, noted_file, noted_files}
 use Rattle.jn_annotate_law.specs.Meaning.{AllPlaced}
-use Rattle.jn_annotate_law.proofs.Positions.{Stands, stands_left, stands_right}
+use Rattle.jn_annotate_law.specs.Worded.{Narrows}
+use Rattle.jn_annotate_law.proofs.Positions.{Stands, in_all, stands_left, stands_right}
 use Rattle.jn_annotate_law.proofs.Written.{file_parts, slots_all_append}
 use Rattle.jn_annotate_law.proofs.NoteRows.{no_rows_left, no_rows_right, no_rows_both}
 use Rattle.jn_annotate_law.proofs.MemberRows.{when_stays}
@@ -152,11 +153,11 @@ module _ (slots : List SlotInfo) (s : List Qualifier) (hs : List ClassHead) (inf
       files_stay tokens others trees places (package_behind f (place_package ts bare.package_line)) (package_behind g (place_package us bare.package_line)) c' k' b' (drop (file_fields bare.types) fs) restf (drop (file_methods bare.types) ms) restm p.1 q.1 others_is cut.rest_f cut.rest_m (stands_right slots s k (slots_of_all hs xs) (slots_of_all hs ys) stands) (behind_same f g bare.package_line ts us w) (no_rows_right (F ++ (G ++ H)) K r') in
       subst (λ x. files_rows g (x ∷ places) ≡ []) (sym new_is) (no_rows_both (F' ++ (G' ++ H')) K' here later)
 
-pub outside_stays : (infer : Infer) (tokens others : List (List Token)) (trees places : List PlacedFile) (s : List Qualifier) → let P = table_by infer trees in AllPlaced tokens trees → AllPlaced others places → map forget_file places ≡ noted_files P.slots s (map forget_file trees) P.fields (drop 1 P.methods) → outside_rows trees ≡ [] → outside_rows places ≡ []
-outside_stays infer tokens others trees places s p q e r =
+pub outside_stays : (infer : Infer) (tokens others : List (List Token)) (trees places : List PlacedFile) (said : List SlotInfo) (s : List Qualifier) → let P = table_by infer trees in Narrows said P.slots → AllPlaced tokens trees → AllPlaced others places → map forget_file places ≡ noted_files said s (map forget_file trees) P.fields (drop 1 P.methods) → outside_rows trees ≡ [] → outside_rows places ≡ []
+outside_stays infer tokens others trees places said s narrow p q e r =
     let hs : List ClassHead = heads trees in
     let xs : List ClassHead = marks infer trees in
     let slots : List SlotInfo = slots_of_all hs xs in
     let fs : List Field = fields_from hs 2 0 xs in
     let ms : List Method = methods_from hs 2 0 1 xs in
-    files_stay slots s hs infer tokens others trees places None None 2 0 1 fs [] ms [] p q e (sym (append-nil fs)) (sym (append-nil ms)) (record { before = []; behind' = []; is = sym (append-nil slots); long = refl }) refl r
+    files_stay said s hs infer tokens others trees places None None 2 0 1 fs [] ms [] p q e (sym (append-nil fs)) (sym (append-nil ms)) (record { whole = slots; there = in_all slots; narrow = narrow }) refl r

@@ -1,13 +1,15 @@
 -- The slots of annotated positions are written as they were inferred.
-use Rattle.std.proofs.Common.{◌≡◌, ℕ, zero, suc, ◌+◌, Bool, true, false, not, cond, ◌&&◌, ◌||◌, List, [], ◌∷◌, ◌++◌, length, Option, Some, None, refl, sym, ap, ◌∙◌, subst, arith, append_assoc, length-append}
+use Rattle.std.proofs.Common.{◌≡◌, ℕ, suc, ◌+◌, Bool, true, false, not, cond, ◌&&◌, ◌||◌, List, [], ◌∷◌, ◌++◌, length, Option, Some, None, refl, sym, ap, ◌∙◌, subst, arith, append_assoc, length-append}
 use Rattle.std.specs.Prelude.{drop, eqb, map, slice_get, slice_index_or}
 use Rattle.std.proofs.Math.Path.{fun_ext}
-use Rattle.std.proofs.lemmas.List.{map-append}
+use Rattle.std.proofs.lemmas.Bool.{false≢true}
+use Rattle.std.proofs.lemmas.List.{append-nil}
 use Rattle.jn_base.specs.declared.number.NameNo.{NameNo}
 use Rattle.jn_quals.specs.Qualifier.{Qualifier}
 use Rattle.jn_quals.specs.Order.{no_qual}
 use Rattle.jn_points.specs.Members.{some_of}
 use Rattle.jn_points.specs.declared.program.SlotInfo.{SlotInfo}
+use Rattle.jn_transfer.specs.Contributions.{is_inferred}
 use Rattle.jn_trees.specs.declared.token.Token.{Token}
 use Rattle.jn_trees.specs.Trees.{BaseTree, LocalMark, AnnotationMark, Mark, NoteMark, ParameterTree}
 use Rattle.jn_trees.specs.Spelling.{spell_marks}
@@ -23,24 +25,13 @@ use Rattle.jn_places_law.specs.Written.{written_slot}
 use Rattle.jn_annotate.specs.Words.{is_unspelled}
 use Rattle.jn_annotate.specs.Insertions.{qual_where, inferred_qual}
 use Rattle.jn_annotate_law.specs.Trees.{both_names, names_of, leading, at_brackets, noted_parameter, both_at, noted_parameters}
-use Rattle.jn_annotate_law.specs.Says.{Spelled}
+use Rattle.jn_annotate_law.specs.Worded.{Narrows, worded_from}
+use Rattle.jn_annotate_law.specs.Says.{AllSpelled}
 use Rattle.jn_annotate_law.specs.Noted.{notes_with}
 use Rattle.jn_heads_law.specs.Plain.{plain_type, plain_head}
 use Rattle.jn_heads_law.proofs.Tables.{position_is}
 use Rattle.jn_annotate_law.proofs.Meanings.{modifiers_more, locals_more, annotations_more, value_slot}
 use Rattle.jn_annotate_law.proofs.Extracting.{modifiers_same, locals_same, param_same}
-
--- the qualifiers of so many slots from the k-th on
-abbrev pub quals_from : List Qualifier → ℕ → ℕ → List Qualifier
-quals_from s k zero = []
-quals_from s k (suc n) = slice_index_or s k no_qual ∷ quals_from s (k + 1) n
-
-pub quals_append : (s : List Qualifier) (k m n : ℕ) → quals_from s k (m + n) ≡ quals_from s k m ++ quals_from s (k + m) n
-quals_append s k zero n = ap (λ x. quals_from s k x) (omega arith) ∙ ap (λ x. quals_from s x n) (omega arith)
-quals_append s k (suc m) n =
-    ap (λ x. quals_from s k x) (let e : suc m + n ≡ suc (m + n) = omega arith in e)
-    ∙ ap (λ x. slice_index_or s k no_qual ∷ x) (quals_append s (k + 1) m n)
-    ∙ ap (λ x. slice_index_or s k no_qual ∷ (quals_from s (k + 1) m ++ quals_from s x n)) (omega arith)
 
 without_names : (has : ℕ → Bool) → notes_with has [] ≡ notes_by has
 without_names has = ap notes_by (fun_ext (λ n. none (has n)))
@@ -80,76 +71,111 @@ at_place : {A : Type 0} (xs ys : List A) (y : A) → slice_get (xs ++ y ∷ ys) 
 at_place [] ys y = refl
 at_place (x ∷ xs) ys y = at_place xs ys y
 
-module _ (slots : List SlotInfo) (s : List Qualifier) where
-  -- these slots stand from the k-th on
-  pub record Stands (k : ℕ) (xs : List SlotInfo) : Type 0 where
+module _ (whole : List SlotInfo) where
+  -- these slots stand in a list from the k-th on
+  pub record StandsIn (k : ℕ) (xs : List SlotInfo) : Type 0 where
     pub before : List SlotInfo
     pub behind' : List SlotInfo
-    pub is : slots ≡ before ++ (xs ++ behind')
+    pub is : whole ≡ before ++ (xs ++ behind')
     pub long : length before ≡ k
 
-  pub stands_left : (k : ℕ) (xs ys : List SlotInfo) → Stands k (xs ++ ys) → Stands k xs
-  stands_left k xs ys h = record { before = h.before; behind' = ys ++ h.behind'; is = h.is ∙ ap (λ x. h.before ++ x) (append_assoc xs ys h.behind'); long = h.long }
+  pub in_left : (k : ℕ) (xs ys : List SlotInfo) → StandsIn k (xs ++ ys) → StandsIn k xs
+  in_left k xs ys h = record { before = h.before; behind' = ys ++ h.behind'; is = h.is ∙ ap (λ x. h.before ++ x) (append_assoc xs ys h.behind'); long = h.long }
 
-  pub stands_right : (k : ℕ) (xs ys : List SlotInfo) → Stands k (xs ++ ys) → Stands (k + length xs) ys
-  stands_right k xs ys h = record {
+  pub in_right : (k : ℕ) (xs ys : List SlotInfo) → StandsIn k (xs ++ ys) → StandsIn (k + length xs) ys
+  in_right k xs ys h = record {
     before = h.before ++ xs;
     behind' = h.behind';
     is = h.is ∙ ap (λ x. h.before ++ x) (append_assoc xs ys h.behind') ∙ sym (append_assoc h.before xs (ys ++ h.behind'));
     long = length-append h.before xs ∙ ap (λ n. n + length xs) h.long;
   }
 
-  pub stands_one : (k : ℕ) (x : SlotInfo) → Stands k (x ∷ []) → slice_get slots k ≡ Some x
-  stands_one k x h = ap (λ l. slice_get l k) h.is ∙ ap (slice_get (h.before ++ x ∷ h.behind')) (sym h.long) ∙ at_place h.before h.behind' x
+  pub in_one : (k : ℕ) (x : SlotInfo) → StandsIn k (x ∷ []) → slice_get whole k ≡ Some x
+  in_one k x h = ap (λ l. slice_get l k) h.is ∙ ap (slice_get (h.before ++ x ∷ h.behind')) (sym h.long) ∙ at_place h.before h.behind' x
+
+  -- all of them do
+  pub in_all : StandsIn 0 whole
+  in_all = record { before = []; behind' = []; is = sym (append-nil whole); long = refl }
+
+-- the qualifier of a slot that counts as inferred
+pub counted_is : (slots : List SlotInfo) (s : List Qualifier) (k : ℕ) → inferred_qual slots s (Some (record { 0 = k })) ≡ cond (is_inferred (slice_get slots k)) (Some (slice_index_or s k no_qual)) None
+counted_is slots s k = go (slice_get slots k)
+  where
+    go : (o : Option SlotInfo) → qual_where slots s o k ≡ cond (is_inferred o) (Some (slice_index_or s k no_qual)) None
+    go None = refl
+    go (Some info) = refl
+
+pub counts : (slots : List SlotInfo) (s : List Qualifier) (k : ℕ) (q : Qualifier) → inferred_qual slots s (Some (record { 0 = k })) ≡ Some q → (is_inferred (slice_get slots k) ≡ true) × (slice_index_or s k no_qual ≡ q)
+counts slots s k q e = go (is_inferred (slice_get slots k)) (sym (counted_is slots s k) ∙ e)
+  where
+    go : (b : Bool) → cond b (Some (slice_index_or s k no_qual)) None ≡ Some q → (b ≡ true) × (slice_index_or s k no_qual ≡ q)
+    go true e = (refl, let f : ◌≡◌ {A = Option Qualifier} (Some (slice_index_or s k no_qual)) (Some q) = e in cc)
+    go false e = absurd (let f : ◌≡◌ {A = Option Qualifier} None (Some q) = e in cc)
+
+module _ (slots : List SlotInfo) (s : List Qualifier) where
+  -- these slots stand from the k-th on in a list of which the slots count as inferred only where they are
+  pub record Stands (k : ℕ) (xs : List SlotInfo) : Type 0 where
+    pub whole : List SlotInfo
+    pub there : StandsIn whole k xs
+    pub narrow : Narrows slots whole
+
+  pub stands_left : (k : ℕ) (xs ys : List SlotInfo) → Stands k (xs ++ ys) → Stands k xs
+  stands_left k xs ys h = record { whole = h.whole; there = in_left h.whole k xs ys h.there; narrow = h.narrow }
+
+  pub stands_right : (k : ℕ) (xs ys : List SlotInfo) → Stands k (xs ++ ys) → Stands (k + length xs) ys
+  stands_right k xs ys h = record { whole = h.whole; there = in_right h.whole k xs ys h.there; narrow = h.narrow }
+
+  -- one that counts as inferred is
+  pub stands_open : (k : ℕ) (x : SlotInfo) → Stands k (x ∷ []) → is_inferred (slice_get slots k) ≡ true → x.inferred ≡ true
+  stands_open k x h e = sym (ap is_inferred (in_one h.whole k x h.there)) ∙ h.narrow k e
 
   -- ---- one position
 
   module _ (names : Qualifier → List NameNo) (qual : Notes → Qualifier) (Fits : Qualifier → Type 0) (says : (has : ℕ → Bool) (q : Qualifier) (secret : Bool) → is_written (notes_by has) ≡ false → Fits q → slot_of secret (notes_with has (names q)) (qual (notes_with has (names q))) ≡ written_slot q) where
-    at_slot : (k : ℕ) (has : ℕ → Bool) (secret : Bool) → Spelled slots s → ((q : Qualifier) → inferred_qual slots s (Some (record { 0 = k })) ≡ Some q → Fits q) → slice_get slots k ≡ Some (slot_of secret (notes_by has) (qual (notes_by has))) → slot_of secret (notes_with has (names_of names (inferred_qual slots s (Some (record { 0 = k }))))) (qual (notes_with has (names_of names (inferred_qual slots s (Some (record { 0 = k })))))) ≡ written_slot (slice_index_or s k no_qual)
-    at_slot k has secret sp fits is = here secret (is_written (notes_by has)) refl is
+    at_slot : (k : ℕ) (has : ℕ → Bool) (secret : Bool) → ((q : Qualifier) → inferred_qual slots s (Some (record { 0 = k })) ≡ Some q → Fits q) → (is_inferred (slice_get slots k) ≡ true → (slot_of secret (notes_by has) (qual (notes_by has))).inferred ≡ true) → slot_of secret (notes_with has (names_of names (inferred_qual slots s (Some (record { 0 = k }))))) (qual (notes_with has (names_of names (inferred_qual slots s (Some (record { 0 = k })))))) ≡ cond (is_inferred (slice_get slots k)) (written_slot (slice_index_or s k no_qual)) (slot_of secret (notes_by has) (qual (notes_by has)))
+    at_slot k has secret fits is = here (is_inferred (slice_get slots k)) refl
       where
-        here : (b w : Bool) → is_written (notes_by has) ≡ w → slice_get slots k ≡ Some (cond (b && not w) (record { start = no_qual; inferred = true }) (record { start = qual (notes_by has); inferred = false })) → slot_of b (notes_with has (names_of names (inferred_qual slots s (Some (record { 0 = k }))))) (qual (notes_with has (names_of names (inferred_qual slots s (Some (record { 0 = k })))))) ≡ written_slot (slice_index_or s k no_qual)
-        here true false e i =
-            let q : inferred_qual slots s (Some (record { 0 = k })) ≡ Some (slice_index_or s k no_qual) = ap (λ o. qual_where slots s o k) i in
-            ap (λ o. slot_of true (notes_with has (names_of names o)) (qual (notes_with has (names_of names o)))) q ∙ says has (slice_index_or s k no_qual) true e (fits (slice_index_or s k no_qual) q)
-        here true true e i =
-            let q : inferred_qual slots s (Some (record { 0 = k })) ≡ None = ap (λ o. qual_where slots s o k) i in
-            ap (λ o. slot_of true (notes_with has (names_of names o)) (qual (notes_with has (names_of names o)))) q
-            ∙ ap (λ n. slot_of true n (qual n)) (without_names has)
-            ∙ ap (λ w. cond (true && not w) (record { start = no_qual; inferred = true }) (record { start = qual (notes_by has); inferred = false })) e
-            ∙ ap written_slot (sp.fixed k (record { start = qual (notes_by has); inferred = false }) i refl)
-        here false w e i =
-            let q : inferred_qual slots s (Some (record { 0 = k })) ≡ None = ap (λ o. qual_where slots s o k) i in
-            ap (λ o. slot_of false (notes_with has (names_of names o)) (qual (notes_with has (names_of names o)))) q
-            ∙ ap (λ n. slot_of false n (qual n)) (without_names has)
-            ∙ ap written_slot (sp.fixed k (record { start = qual (notes_by has); inferred = false }) i refl)
+        unwritten : (c w : Bool) → (cond {A = SlotInfo} (c && not w) (record { start = no_qual; inferred = true }) (record { start = qual (notes_by has); inferred = false })).inferred ≡ true → w ≡ false
+        unwritten true false e = refl
+        unwritten true true e = absurd (false≢true e)
+        unwritten false w e = absurd (false≢true e)
+
+        here : (b : Bool) → is_inferred (slice_get slots k) ≡ b → slot_of secret (notes_with has (names_of names (inferred_qual slots s (Some (record { 0 = k }))))) (qual (notes_with has (names_of names (inferred_qual slots s (Some (record { 0 = k })))))) ≡ cond b (written_slot (slice_index_or s k no_qual)) (slot_of secret (notes_by has) (qual (notes_by has)))
+        here true e =
+            let q : inferred_qual slots s (Some (record { 0 = k })) ≡ Some (slice_index_or s k no_qual) = counted_is slots s k ∙ ap (λ b. cond b (Some (slice_index_or s k no_qual)) None) e in
+            ap (λ o. slot_of secret (notes_with has (names_of names o)) (qual (notes_with has (names_of names o)))) q ∙ says has (slice_index_or s k no_qual) secret (unwritten secret (is_written (notes_by has)) (is e)) (fits (slice_index_or s k no_qual) q)
+        here false e =
+            let q : inferred_qual slots s (Some (record { 0 = k })) ≡ None = counted_is slots s k ∙ ap (λ b. cond b (Some (slice_index_or s k no_qual)) None) e in
+            ap (λ o. slot_of secret (notes_with has (names_of names o)) (qual (notes_with has (names_of names o)))) q
+            ∙ ap (λ n. slot_of secret n (qual n)) (without_names has)
 
     -- where there is a position
-    pub slot_new : (p p' : Bool) (k : ℕ) (secret secret' : Bool) (A B : Notes) → Spelled slots s → p' ≡ p → secret' ≡ secret → Noted A B (names_of names (inferred_qual slots s (slot_at p k))) → ((q : Qualifier) → inferred_qual slots s (slot_at p k) ≡ Some q → Fits q) → Stands k (cond p (slot_of secret A (qual A) ∷ []) []) → cond p' (slot_of secret' B (qual B) ∷ []) [] ≡ map written_slot (quals_from s k (length (cond p (slot_of secret A (qual A) ∷ []) [])))
-    slot_new false p' k secret secret' A B sp e f n fits h = ap (λ b. cond b (slot_of secret' B (qual B) ∷ []) []) e
-    slot_new true p' k secret secret' A B sp e f n fits h =
-        let there = subst (λ x. slice_get slots k ≡ Some (slot_of secret x (qual x))) n.old_is (stands_one k (slot_of secret A (qual A)) h) in
-        ap (λ b. cond b (slot_of secret' B (qual B) ∷ []) []) e ∙ ap (λ b. slot_of b B (qual B) ∷ []) f ∙ ap (λ x. slot_of secret x (qual x) ∷ []) n.new_is ∙ ap (λ x. x ∷ []) (at_slot k n.has secret sp fits there)
+    pub slot_new : (p p' : Bool) (k : ℕ) (secret secret' : Bool) (A B : Notes) → p' ≡ p → secret' ≡ secret → Noted A B (names_of names (inferred_qual slots s (slot_at p k))) → ((q : Qualifier) → inferred_qual slots s (slot_at p k) ≡ Some q → Fits q) → Stands k (cond p (slot_of secret A (qual A) ∷ []) []) → cond p' (slot_of secret' B (qual B) ∷ []) [] ≡ worded_from slots s k (cond p (slot_of secret A (qual A) ∷ []) [])
+    slot_new false p' k secret secret' A B e f n fits h = ap (λ b. cond b (slot_of secret' B (qual B) ∷ []) []) e
+    slot_new true p' k secret secret' A B e f n fits h =
+        let opened = subst (λ x. is_inferred (slice_get slots k) ≡ true → (slot_of secret x (qual x)).inferred ≡ true) n.old_is (stands_open k (slot_of secret A (qual A)) h) in
+        ap (λ b. cond b (slot_of secret' B (qual B) ∷ []) []) e ∙ ap (λ b. slot_of b B (qual B) ∷ []) f ∙ ap (λ x. slot_of secret x (qual x) ∷ []) n.new_is ∙ ap (λ x. x ∷ []) (at_slot k n.has secret fits opened)
+        ∙ ap (λ x. cond (is_inferred (slice_get slots k)) (written_slot (slice_index_or s k no_qual)) (slot_of secret x (qual x)) ∷ []) (sym n.old_is)
 
   -- ---- lists of slots
 
-  pub slots_append : (k : ℕ) (xs ys new others : List SlotInfo) → new ≡ map written_slot (quals_from s k (length xs)) → others ≡ map written_slot (quals_from s (k + length xs) (length ys)) → new ++ others ≡ map written_slot (quals_from s k (length (xs ++ ys)))
-  slots_append k xs ys new others e f =
-      ap (λ x. x ++ others) e ∙ ap (λ x. map written_slot (quals_from s k (length xs)) ++ x) f
-      ∙ sym (map-append written_slot (quals_from s k (length xs)) (quals_from s (k + length xs) (length ys)))
-      ∙ ap (map written_slot) (sym (quals_append s k (length xs) (length ys)))
-      ∙ ap (λ n. map written_slot (quals_from s k n)) (sym (length-append xs ys))
+  pub slots_append : (k : ℕ) (xs ys new others : List SlotInfo) → new ≡ worded_from slots s k xs → others ≡ worded_from slots s (k + length xs) ys → new ++ others ≡ worded_from slots s k (xs ++ ys)
+  slots_append k xs ys new others e f = ap (λ x. x ++ others) e ∙ ap (λ x. worded_from slots s k xs ++ x) f ∙ sym (worded_append k xs)
+    where
+      worded_append : (k : ℕ) (xs : List SlotInfo) → worded_from slots s k (xs ++ ys) ≡ worded_from slots s k xs ++ worded_from slots s (k + length xs) ys
+      worded_append k [] = ap (λ n. worded_from slots s n ys) (let e : k ≡ k + 0 = omega arith in e)
+      worded_append k (x ∷ xs) = ap (λ r. cond (is_inferred (slice_get slots k)) (written_slot (slice_index_or s k no_qual)) x ∷ r) (worded_append (k + 1) xs ∙ ap (λ n. worded_from slots s (k + 1) xs ++ worded_from slots s n ys) (let e : (k + 1) + length xs ≡ k + suc (length xs) = omega arith in e))
 
-  module _ (hs gs : List ClassHead) (same : map plain_head hs ≡ map plain_head gs) (sp : Spelled slots s) where
+  module _ (hs gs : List ClassHead) (same : map plain_head hs ≡ map plain_head gs) (sp : AllSpelled slots s) where
     pub position_same : (t u : TypeHead) → plain_type t ≡ plain_type u → is_position gs u ≡ is_position hs t
     position_same t u alike = sym (position_is gs u) ∙ ap (λ x. is_position x (plain_type u)) (sym same) ∙ ap (is_position (map plain_head hs)) (sym alike) ∙ position_is hs t
 
     -- a parameter or a result
-    pub value_new : (k : ℕ) (secret secret' : Bool) (t u : TypeHead) → secret' ≡ secret → plain_type t ≡ plain_type u → Noted t.notes u.notes (both_at slots s (slot_at (is_position hs t) k)) → Stands k (value_slots hs secret t) → value_slots gs secret' u ≡ map written_slot (quals_from s k (length (value_slots hs secret t)))
+    pub value_new : (k : ℕ) (secret secret' : Bool) (t u : TypeHead) → secret' ≡ secret → plain_type t ≡ plain_type u → Noted t.notes u.notes (both_at slots s (slot_at (is_position hs t) k)) → Stands k (value_slots hs secret t) → value_slots gs secret' u ≡ worded_from slots s k (value_slots hs secret t)
     value_new k secret secret' t u e alike n h =
-        slot_new both_names written_qual (λ q. is_unspelled q ≡ false) value_slot (is_position hs t) (is_position gs u) k secret secret' t.notes u.notes sp (position_same t u alike) e n (sp.spelled (slot_at (is_position hs t) k)) h
+        slot_new both_names written_qual (λ q. is_unspelled q ≡ false) value_slot (is_position hs t) (is_position gs u) k secret secret' t.notes u.notes (position_same t u alike) e n (sp (slot_at (is_position hs t) k)) h
 
-    pub params_new : (ps : List ParameterTree) (secret secret' : Bool) (k : ℕ) (ts us : List Token) → secret' ≡ secret → Stands k (params_slots hs secret (map param_head (place_parameters ts ps))) → params_slots gs secret' (map param_head (place_parameters us (noted_parameters slots s ps (param_slots hs secret k (map param_head (place_parameters ts ps)))))) ≡ map written_slot (quals_from s k (length (params_slots hs secret (map param_head (place_parameters ts ps)))))
+    pub params_new : (ps : List ParameterTree) (secret secret' : Bool) (k : ℕ) (ts us : List Token) → secret' ≡ secret → Stands k (params_slots hs secret (map param_head (place_parameters ts ps))) → params_slots gs secret' (map param_head (place_parameters us (noted_parameters slots s ps (param_slots hs secret k (map param_head (place_parameters ts ps)))))) ≡ worded_from slots s k (params_slots hs secret (map param_head (place_parameters ts ps)))
     params_new [] secret secret' k ts us e h = refl
     params_new (p ∷ ps) secret secret' k ts us e h =
         let old : TypeHead = (param_head (place_parameter ts p)).kind in

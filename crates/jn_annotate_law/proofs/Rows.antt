@@ -28,7 +28,7 @@ abbrev table_of : List Token → SourceTree → Program
 table_of ts f = table (heads (place_file ts f ∷ []))
 
 abbrev new_text : List ℕ → List Token → SourceTree → List Qualifier → List (List ℕ)
-new_text text ts f s = annotated false (table_of ts f) s (text ∷ []) (ts ∷ []) (f ∷ [])
+new_text text ts f s = annotated false (table_of ts f).slots (table_of ts f) s (text ∷ []) (ts ∷ []) (f ∷ [])
 
 abbrev pub use_of : ℕ → Option (List NameNo) → TypeUseTree
 use_of i array = record { base = ClassBase (n i); array = array }
@@ -48,7 +48,7 @@ unfolding with_lines
 a_field = refl
 
 -- with an import, at the file's first byte
-a_first_line : annotated true (table_of field_tokens field_tree) (null_or_committed ∷ []) (field_text ∷ []) (field_tokens ∷ []) (field_tree ∷ []) ≡ codes "import org.checkerframework.checker.nullness.qual.*;\nclass K { private @Nullable String s; }" ∷ []
+a_first_line : annotated true (table_of field_tokens field_tree).slots (table_of field_tokens field_tree) (null_or_committed ∷ []) (field_text ∷ []) (field_tokens ∷ []) (field_tree ∷ []) ≡ codes "import org.checkerframework.checker.nullness.qual.*;\nclass K { private @Nullable String s; }" ∷ []
 unfolding with_lines
 a_first_line = refl
 
@@ -62,7 +62,7 @@ lined_tokens = tk PackageWord 0 7 ∷ tk (Id (n 32)) 8 9 ∷ tk Semicolon 9 10 �
 abbrev lined_tree : SourceTree
 lined_tree = record { package_line = Some (record { first = n 32; more = [] }); imports = []; types = field_tree.types }
 
-a_line_behind : annotated true (table_of lined_tokens lined_tree) (null_or_committed ∷ []) (lined_text ∷ []) (lined_tokens ∷ []) (lined_tree ∷ []) ≡ codes "package p;\r\nimport org.checkerframework.checker.nullness.qual.*;\r\nclass K { private @Nullable String s; }" ∷ []
+a_line_behind : annotated true (table_of lined_tokens lined_tree).slots (table_of lined_tokens lined_tree) (null_or_committed ∷ []) (lined_text ∷ []) (lined_tokens ∷ []) (lined_tree ∷ []) ≡ codes "package p;\r\nimport org.checkerframework.checker.nullness.qual.*;\r\nclass K { private @Nullable String s; }" ∷ []
 unfolding with_lines
 a_line_behind = refl
 

@@ -209,7 +209,7 @@ module _ (P : Program) (roles : List ℕ) (fields_play : Each (FieldPlays roles)
           let q = slice_index_or s i no_qual in
           let w = quals_at (start_signature P) s i is.starts in
           either_above (is_inferred (slice_get P.slots i)) a (by_role (slice_get roles i) q) q (λ e. role_above (slice_get roles i) a q (λ k. (starts_low 0 i P.slots e).0) (λ k. (starts_low 0 i P.slots e).1) w) w;
-      sent = λ t b x m h. let fine = sent_fine t b x m in either_above (is_inferred (slice_get P.slots x.0)) x.1 (by_role (slice_get roles x.0) (slice_index_or s x.0 no_qual)) (slice_index_or s x.0 no_qual) (λ e. role_above (slice_get roles x.0) x.1 (slice_index_or s x.0 no_qual) fine.0 fine.1 h) h;
+      sent = λ b x m h. let fine = sent_fine (trims taken 0 s) b x m in either_above (is_inferred (slice_get P.slots x.0)) x.1 (by_role (slice_get roles x.0) (slice_index_or s x.0 no_qual)) (slice_index_or s x.0 no_qual) (λ e. role_above (slice_get roles x.0) x.1 (slice_index_or s x.0 no_qual) fine.0 fine.1 h) h;
       sent_over = λ m x sent h. let fine = pairs_fine (trims taken 0 s) left_low m x sent in either_above (is_inferred (slice_get P.slots x.0)) x.1 (by_role (slice_get roles x.0) (slice_index_or s x.0 no_qual)) (slice_index_or s x.0 no_qual) (λ e. role_above (slice_get roles x.0) x.1 (slice_index_or s x.0 no_qual) fine.0 fine.1 h) h;
     }
 

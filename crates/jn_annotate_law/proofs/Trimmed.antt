@@ -38,6 +38,10 @@ module _ (f : ℕ → Qualifier → Qualifier) where
   trims_at k zero (x ∷ xs) l = ap (λ n. f n x) (let e : k ≡ k + 0 = omega arith in e)
   trims_at k (suc i) (x ∷ xs) l = trims_at (k + 1) i xs (omega (arith, l)) ∙ ap (λ n. f n (slice_index_or xs i no_qual)) (let e : (k + 1) + i ≡ k + suc i = omega arith in e)
 
+  pub trims_long : (k : ℕ) (xs : List Qualifier) → length (trims k xs) ≡ length xs
+  trims_long k [] = refl
+  trims_long k (x ∷ xs) = ap suc (trims_long (k + 1) xs)
+
   -- past the end nothing stands
   pub trims_past : (k i : ℕ) (xs : List Qualifier) → (i < length xs → ⊥) → (slice_index_or (trims k xs) i no_qual ≡ no_qual) × (slice_index_or xs i no_qual ≡ no_qual)
   trims_past k i [] n = (refl, refl)
@@ -60,7 +64,7 @@ module _ (f : ℕ → Qualifier → Qualifier) where
     above_trims (k + 1) as' xs w.1 (λ i l. subst (λ n. IsTrue (within (slice_index_or as' i no_qual) (f n (slice_index_or xs i no_qual)))) (let e : k + suc i ≡ (k + 1) + i = omega arith in e) (h (suc i) (omega (arith, l)))),
   )
 
-body_inside : (b p : ℕ) (bodies : List Body) (pt : Point) → slice_get (points_of (slice_get bodies b)) p ≡ Some pt → b < length bodies
+pub body_inside : (b p : ℕ) (bodies : List Body) (pt : Point) → slice_get (points_of (slice_get bodies b)) p ≡ Some pt → b < length bodies
 body_inside b p [] pt e = absurd cc
 body_inside zero p (x ∷ bodies) pt e = omega arith
 body_inside (suc b) p (x ∷ bodies) pt e = let h = body_inside b p bodies pt e in omega (arith, h)
@@ -76,7 +80,7 @@ module _ (P : Program) (can : IsInferable P) (s : List Qualifier) (is : IsLeastS
   pub record IsNeedless : Type 0 where
     pub low : (i : ℕ) → IsTrue (within (f i (now i)) (now i))
     pub starts : (i : ℕ) → i < length s → IsTrue (within (slice_index_or (start_signature P) i no_qual) (f i (now i)))
-    pub sent : (t : List Qualifier) (b : ℕ) (x : ℕ × Qualifier) → IsSent x (least_sends P t b) → IsTrue (within x.1 (now x.0)) → IsTrue (within x.1 (f x.0 (now x.0)))
+    pub sent : (b : ℕ) (x : ℕ × Qualifier) → IsSent x (least_sends P trimmed_signature b) → IsTrue (within x.1 (now x.0)) → IsTrue (within x.1 (f x.0 (now x.0)))
     pub sent_over : (m : ℕ) (x : ℕ × Qualifier) → IsSent x (pair_sends P trimmed_signature m) → IsTrue (within x.1 (now x.0)) → IsTrue (within x.1 (f x.0 (now x.0)))
 
   module _ (h : IsNeedless) where
@@ -119,17 +123,20 @@ module _ (P : Program) (can : IsInferable P) (s : List Qualifier) (is : IsLeastS
           let body = of_the_body P b T x (record { place = p; point = pt; env = e; there = at; reached = reached; sent = m }) in
           let mine = subst (IsSent x) (sym (least_sends_is P new b T (can.inside b lt) (tl b))) body in
           let low = below_old T b lt (tl b) x mine in
-          within_new x low (h.sent new b x mine low);
+          within_new x low (h.sent b x mine low);
       pairs = λ m x sent. let low = below_pairs m x sent in within_new x low (h.sent_over m x sent low);
     }
 
     new_starts : QualsWithin (start_signature P) new
     new_starts = above_trims f 0 (start_signature P) s is.starts (λ i l. subst (λ n. IsTrue (within (slice_index_or (start_signature P) i no_qual) (f n (now i)))) (let e : i ≡ 0 + i = omega arith in e) (h.starts i l))
 
+    pub trimmed_below : QualsWithin s new
+    trimmed_below = is.least new new_closed new_starts
+
     -- so the signature is the trimmed one
     pub trimmed : (i : ℕ) → i < length s → now i ≡ f i (now i)
     trimmed i l =
-        let up = quals_at s new i (is.least new new_closed new_starts) in
+        let up = quals_at s new i trimmed_below in
         let there : slice_index_or new i no_qual ≡ f i (now i) = trims_at f 0 i s l ∙ ap (λ n. f n (now i)) (let e : 0 + i ≡ i = omega arith in e) in
         within_antisym (now i) (f i (now i)) (subst (λ z. IsTrue (within (now i) z)) there up) (h.low i)
 
@@ -154,7 +161,7 @@ module _ (P : Program) (s : List Qualifier) (can : IsInferable P) (is : IsLeastS
   needless = record {
     low = λ i. or_low (is_inferred (slice_get P.slots i)) (slice_index_or (start_signature P) i no_qual) (slice_index_or s i no_qual) (quals_at (start_signature P) s i is.starts);
     starts = λ i l. or_above (is_inferred (slice_get P.slots i)) (slice_index_or (start_signature P) i no_qual) (slice_index_or s i no_qual) (quals_at (start_signature P) s i is.starts);
-    sent = λ t b x m h. or_sent (is_inferred (slice_get P.slots x.0)) x.1 (slice_index_or (start_signature P) x.0 no_qual) (slice_index_or s x.0 no_qual) (inferred_sent P t b x m) h;
+    sent = λ b x m h. or_sent (is_inferred (slice_get P.slots x.0)) x.1 (slice_index_or (start_signature P) x.0 no_qual) (slice_index_or s x.0 no_qual) (inferred_sent P (trims start_or 0 s) b x m) h;
     sent_over = λ m x sent h. or_sent (is_inferred (slice_get P.slots x.0)) x.1 (slice_index_or (start_signature P) x.0 no_qual) (slice_index_or s x.0 no_qual) (pairs_inferred P (trims start_or 0 s) m x sent) h;
   }
 

@@ -109,10 +109,14 @@ module _ (slots : List SlotInfo) (s : List Qualifier) (none : NoneInferred slots
       ∙ ap (λ x. inserted text x ∷ annotated_from imports slots s texts tokens (map forget_file trees) (drop (file_fields f.types) fs) (drop (file_methods f.types) methods)) (no_lines imports text ts f)
       ∙ ap (λ r. text ∷ r) (files_none imports (k + 1) l.0 texts tokens trees names (drop (file_fields f.types) fs) (drop (file_methods f.types) methods) l.2 p.1)
 
-pub unchanged : (imports : Bool) (P : Program) (s : List Qualifier) (texts names : List (List ℕ)) (tokens : List (List Token)) (trees : List PlacedFile) (known : List (List ℕ)) → NoneInferred P.slots → TextsLexed 0 known texts tokens names → AllPlaced tokens trees → annotated imports P s texts tokens (map forget_file trees) ≡ texts
-unchanged imports P s texts names tokens trees known none l p = files_none P.slots s none imports 0 known texts tokens trees names P.fields (drop 1 P.methods) l p
+pub unchanged : (imports : Bool) (said : List SlotInfo) (P : Program) (s : List Qualifier) (texts names : List (List ℕ)) (tokens : List (List Token)) (trees : List PlacedFile) (known : List (List ℕ)) → NoneInferred said → TextsLexed 0 known texts tokens names → AllPlaced tokens trees → annotated imports said P s texts tokens (map forget_file trees) ≡ texts
+unchanged imports said P s texts names tokens trees known none l p = files_none said s none imports 0 known texts tokens trees names P.fields (drop 1 P.methods) l p
 
 -- ---- and nothing is refused but for its size
+
+-- where no slot counts as inferred, none gets a word that is taken
+pub named_all : (said : List SlotInfo) (P : Program) (s : List Qualifier) → NoneInferred said → (imports : Bool) (trees : List SourceTree) → HasNone (has_taken_name imports said P s trees)
+named_all said P s none imports trees i = ap (λ b. b && imports && is_taken (taken_words trees) P (slice_index_or s i no_qual) i) (none i)
 
 module _ (P : Program) (s : List Qualifier) (none : NoneInferred P.slots) where
   not_inferred : (x : Option SlotNo) → slot_inferred P s x ≡ false
@@ -121,10 +125,6 @@ module _ (P : Program) (s : List Qualifier) (none : NoneInferred P.slots) where
 
   spelled_all : HasNone (has_no_spelling P s)
   spelled_all i = ap (λ b. b && is_unspelled (slice_index_or s i no_qual)) (none i)
-
-  -- where no slot is inferred, none gets a word that is taken
-  named_all : (imports : Bool) (trees : List SourceTree) → HasNone (has_taken_name imports P s trees)
-  named_all imports trees i = ap (λ b. b && imports && is_taken (taken_words trees) P (slice_index_or s i no_qual) i) (none i)
 
   differs_none : (q : Qualifier) (i : ℕ) (f : Field) → differs P s q i f ≡ false
   differs_none q i f = ap (λ b. is_slot i f.slot && b && not (same_qual (slot_qual s f.slot) q)) (not_inferred f.slot) ∙ either (is_slot i f.slot)
@@ -157,8 +157,8 @@ module _ (P : Program) (s : List Qualifier) (none : NoneInferred P.slots) where
   pub annotated_again : (imports : Bool) (texts names : List (List ℕ)) (tokens : List (List Token)) (trees : List PlacedFile) (known : List (List ℕ)) → TextsLexed 0 known texts tokens names → AllPlaced tokens trees → HasNone (is_too_large texts) → Annotated imports P s texts tokens (map forget_file trees) texts
   annotated_again imports texts names tokens trees known l p small = record {
     spelled = spelled_all;
-    named = named_all imports (map forget_file trees);
+    named = named_all P.slots P s none imports (map forget_file trees);
     alone = λ i. files_share_none (map forget_file trees) P.fields i;
-    are = sym (unchanged imports P s texts names tokens trees known none l p);
+    are = sym (unchanged imports P.slots P s texts names tokens trees known none l p);
     small = small;
   }

@@ -28,15 +28,15 @@ use Rattle.jn_heads.specs.Heads.{unplaced, unwritten_constructor}
 use Rattle.jn_heads.specs.Types.{receiver_qual, slot_of, is_position, receiver_slots, has_receiver, result_slots, params_slots, method_slots, methods_slots}
 use Rattle.jn_classtable.specs.Table.{slot_at, param_slots, result_slot, method_of, methods_of, count}
 use Rattle.jn_heads.specs.Extract.{has_word, notes_of, modifier_notes, type_head, param_head, result_head, receiver_notes}
-use Rattle.jn_places_law.specs.Written.{written_slot}
 use Rattle.jn_annotate.specs.Words.{is_unspelled, initialization_name}
 use Rattle.jn_annotate.specs.Insertions.{fields_in, inferred_qual}
 use Rattle.jn_annotate_law.specs.Trees.{names_of, leading, noted_use, noted_marks, noted_receiver, noted_result, noted_result_marks, both_at, noted_parameters, noted_members}
 use Rattle.jn_heads_law.specs.Plain.{plain_head}
-use Rattle.jn_annotate_law.specs.Says.{Spelled, MembersSay}
+use Rattle.jn_annotate_law.specs.Worded.{worded_from}
+use Rattle.jn_annotate_law.specs.Says.{AllSpelled, MembersSay}
 use Rattle.jn_annotate_law.proofs.Meanings.{receiver_slot, annotations_more}
 use Rattle.jn_annotate_law.proofs.Extracting.{marked_same, result_words}
-use Rattle.jn_annotate_law.proofs.Positions.{quals_from, Noted, noted_annotations, noted_type, noted_modifiers, Stands, stands_left, stands_right, slot_new, slots_append, value_new, params_new}
+use Rattle.jn_annotate_law.proofs.Positions.{Noted, noted_annotations, noted_type, noted_modifiers, Stands, stands_left, stands_right, slot_new, slots_append, value_new, params_new}
 
 noted_receivers : (cn : NameNo) (r : Option ReceiverTree) (q : Option Qualifier) (ts us : List Token) → Noted (receiver_notes (place_receiver ts r)) (receiver_notes (place_receiver us (noted_receiver cn r q))) (names_of (λ x. initialization_name x ∷ []) q)
 noted_receivers cn None None ts us = record { has = λ n. false; old_is = refl; new_is = refl }
@@ -44,17 +44,17 @@ noted_receivers cn None (Some q) ts us = record { has = λ n. false; old_is = re
 noted_receivers cn (Some r) None ts us = subst (λ x. Noted (notes_of (place_annotations ts r.annotations)) (notes_of (place_annotations us x)) []) (append-nil r.annotations) (noted_annotations ts us r.annotations [])
 noted_receivers cn (Some r) (Some q) ts us = noted_annotations ts us r.annotations (initialization_name q ∷ [])
 
-module _ (slots : List SlotInfo) (s : List Qualifier) (hs gs : List ClassHead) (same : map plain_head hs ≡ map plain_head gs) (sp : Spelled slots s) where
+module _ (slots : List SlotInfo) (s : List Qualifier) (hs gs : List ClassHead) (same : map plain_head hs ≡ map plain_head gs) (sp : AllSpelled slots s) where
   abbrev Fits : Qualifier → Type 0
   Fits q = (q.null ≡ false) × (is_unspelled q ≡ false)
 
   -- a receiver
-  receiver_new : (k : ℕ) (p p' secret secret' : Bool) (A B : Notes) → p' ≡ p → secret' ≡ secret → Noted A B (names_of (λ x. initialization_name x ∷ []) (inferred_qual slots s (slot_at p k))) → ((q : Qualifier) → inferred_qual slots s (slot_at p k) ≡ Some q → q.null ≡ false) → Stands slots s k (cond p (slot_of secret A (receiver_qual A) ∷ []) []) → cond p' (slot_of secret' B (receiver_qual B) ∷ []) [] ≡ map written_slot (quals_from s k (length (cond p (slot_of secret A (receiver_qual A) ∷ []) [])))
+  receiver_new : (k : ℕ) (p p' secret secret' : Bool) (A B : Notes) → p' ≡ p → secret' ≡ secret → Noted A B (names_of (λ x. initialization_name x ∷ []) (inferred_qual slots s (slot_at p k))) → ((q : Qualifier) → inferred_qual slots s (slot_at p k) ≡ Some q → q.null ≡ false) → Stands slots s k (cond p (slot_of secret A (receiver_qual A) ∷ []) []) → cond p' (slot_of secret' B (receiver_qual B) ∷ []) [] ≡ worded_from slots s k (cond p (slot_of secret A (receiver_qual A) ∷ []) [])
   receiver_new k p p' secret secret' A B e f n says h =
-      slot_new slots s (λ x. initialization_name x ∷ []) receiver_qual Fits (λ has q b w fits. receiver_slot has q b w fits.0 fits.1) p p' k secret secret' A B sp e f n (λ q e. (says q e, sp.spelled (slot_at p k) q e)) h
+      slot_new slots s (λ x. initialization_name x ∷ []) receiver_qual Fits (λ has q b w fits. receiver_slot has q b w fits.0 fits.1) p p' k secret secret' A B e f n (λ q e. (says q e, sp (slot_at p k) q e)) h
 
   -- a result
-  result_new : (k : ℕ) (u : Option TypeUseTree) (ms : List Mark) (ts us old_at new_at : List Token) (secret secret' : Bool) → secret' ≡ secret → let x : Option SlotNo = result_slot hs k (result_head (place_marks old_at ms) (place_result ts u)) in let names : List NameNo = both_at slots s x in Stands slots s k (result_slots hs secret (result_head (place_marks old_at ms) (place_result ts u))) → result_slots gs secret' (result_head (place_marks new_at (noted_result_marks names u ms)) (place_result us (noted_result names u))) ≡ map written_slot (quals_from s k (length (result_slots hs secret (result_head (place_marks old_at ms) (place_result ts u)))))
+  result_new : (k : ℕ) (u : Option TypeUseTree) (ms : List Mark) (ts us old_at new_at : List Token) (secret secret' : Bool) → secret' ≡ secret → let x : Option SlotNo = result_slot hs k (result_head (place_marks old_at ms) (place_result ts u)) in let names : List NameNo = both_at slots s x in Stands slots s k (result_slots hs secret (result_head (place_marks old_at ms) (place_result ts u))) → result_slots gs secret' (result_head (place_marks new_at (noted_result_marks names u ms)) (place_result us (noted_result names u))) ≡ worded_from slots s k (result_slots hs secret (result_head (place_marks old_at ms) (place_result ts u)))
   result_new k None ms ts us old_at new_at secret secret' e h = refl
   result_new k (Some u) ms ts us old_at new_at secret secret' e h =
       let old : TypeHead = type_head (modifier_notes (place_marks old_at ms)) (place_type_use ts u) in
@@ -72,7 +72,7 @@ module _ (slots : List SlotInfo) (s : List Qualifier) (hs gs : List ClassHead) (
   head_of [] = unwritten_constructor (unplaced (record { 0 = 0 }))
   head_of (x ∷ xs) = x
 
-  pub methods_walk : (infer : Infer) (o : Owner) (interface : Bool) → o.interface ≡ interface → (cn : NameNo) (ms : List MemberTree) (fs : List Field) (c k b : ℕ) (rest : List Method) (ts us : List Token) → GoodMembers o ms → MembersSay slots s ms fs (methods_of hs c k b (methods_at infer interface ts ms) ++ rest) → Stands slots s k (methods_slots hs (methods_at infer interface ts ms)) → methods_slots gs (methods_at infer interface us (noted_members slots s cn ms fs (methods_of hs c k b (methods_at infer interface ts ms) ++ rest))) ≡ map written_slot (quals_from s k (length (methods_slots hs (methods_at infer interface ts ms))))
+  pub methods_walk : (infer : Infer) (o : Owner) (interface : Bool) → o.interface ≡ interface → (cn : NameNo) (ms : List MemberTree) (fs : List Field) (c k b : ℕ) (rest : List Method) (ts us : List Token) → GoodMembers o ms → MembersSay slots s ms fs (methods_of hs c k b (methods_at infer interface ts ms) ++ rest) → Stands slots s k (methods_slots hs (methods_at infer interface ts ms)) → methods_slots gs (methods_at infer interface us (noted_members slots s cn ms fs (methods_of hs c k b (methods_at infer interface ts ms) ++ rest))) ≡ worded_from slots s k (methods_slots hs (methods_at infer interface ts ms))
   methods_walk infer o interface io cn [] fs c k b rest ts us g say h = refl
   methods_walk infer o true io cn (FieldMember marks u d ds ∷ ms) fs c k b rest ts us g say h =
       methods_walk infer o true io cn ms (drop (fields_in (FieldMember marks u d ds)) fs) c k b rest (behind ts (spell_member (FieldMember marks u d ds))) _ g.1 say.1 h

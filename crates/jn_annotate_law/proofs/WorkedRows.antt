@@ -15,10 +15,14 @@ use Rattle.jn_places.specs.Places.{place_file}
 use Rattle.jn_program_law.specs.FileProgram.{inferring}
 use Rattle.jn_annotate.specs.Imports.{with_lines}
 use Rattle.jn_annotate.specs.Annotated.{annotated, has_no_spelling}
+use Rattle.jn_annotate.specs.Chosen.{chosen_slots}
 use Rattle.jn_annotate_law.proofs.Rows.{n, one_class, tk, use_of}
 
+abbrev texts_by : Bool → Infer → List ℕ → List Token → SourceTree → List Qualifier → List (List ℕ)
+texts_by terse infer text ts f s = let P = inferring infer (place_file ts f ∷ []) in annotated false (chosen_slots terse P s) P s (text ∷ []) (ts ∷ []) (f ∷ [])
+
 abbrev new_texts : Infer → List ℕ → List Token → SourceTree → List Qualifier → List (List ℕ)
-new_texts infer text ts f s = annotated false (inferring infer (place_file ts f ∷ [])) s (text ∷ []) (ts ∷ []) (f ∷ [])
+new_texts = texts_by false
 
 abbrev one : Statement → Statements
 one x = MoreStatements x NoStatements
@@ -57,6 +61,11 @@ k_private = refl
 k_package : new_texts Package k_text k_tokens k_tree k_signature ≡ codes "class K {\n  private @Nullable String s;\n  K() { }\n  K(@NonNull @Initialized String t) { this.s = t; }\n  int n(@Initialized K this) {\n    if (s != null) return s.length();\n    return 0;\n  }\n}\n" ∷ []
 unfolding with_lines
 k_package = refl
+
+-- words that say the default are left out
+k_terse : texts_by true Package k_text k_tokens k_tree k_signature ≡ codes "class K {\n  private @Nullable String s;\n  K() { }\n  K(String t) { this.s = t; }\n  int n() {\n    if (s != null) return s.length();\n    return 0;\n  }\n}\n" ∷ []
+unfolding with_lines
+k_terse = refl
 
 -- ---- a receiver under construction
 
@@ -108,3 +117,11 @@ a_package = refl
 
 a_spelled : unspelled Package 1 ≡ false
 a_spelled = refl
+
+-- it is left as it is, and the others get their words
+abbrev a_text : List ℕ
+a_text = codes "class A { private static void f(String s) { } void g() { f(null); } }"
+
+a_left : new_texts Package a_text a_tokens a_tree (null_only ∷ committed_only ∷ []) ≡ codes "class A { private static void f(String s) { } void g(@Initialized A this) { f(null); } }" ∷ []
+unfolding with_lines
+a_left = refl

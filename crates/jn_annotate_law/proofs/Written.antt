@@ -1,13 +1,12 @@
 -- All slots of annotated files are written as they were inferred.
 use Rattle.std.proofs.Common.{◌≡◌, ℕ, suc, ◌+◌, List, [], ◌∷◌, ◌++◌, length, refl, sym, ap, ◌∙◌, subst, arith, append_assoc, length-append}
-use Rattle.std.specs.Prelude.{drop, map, slice_index_or}
+use Rattle.std.specs.Prelude.{drop, map}
 use Rattle.std.proofs.lemmas.List.{append-nil}
 use Rattle.jn_base.specs.declared.infer.Infer.{Infer}
 use Rattle.jn_heads.specs.Inferred.{class_marks, marks, slots_by}
 use Rattle.jn_annotate_law.proofs.Marked.{marks_at}
 use Rattle.jn_annotate_law.proofs.Tabled.{table_by}
 use Rattle.jn_quals.specs.Qualifier.{Qualifier}
-use Rattle.jn_quals.specs.Order.{no_qual}
 use Rattle.jn_points.specs.declared.program.Field.{Field}
 use Rattle.jn_points.specs.declared.program.Method.{Method}
 use Rattle.jn_points.specs.declared.program.SlotInfo.{SlotInfo}
@@ -22,14 +21,14 @@ use Rattle.jn_heads.specs.declared.head.ClassHead.{ClassHead}
 use Rattle.jn_heads.specs.Types.{fields_slots, class_slots, slots_of_all}
 use Rattle.jn_classtable.specs.Table.{fields_of, fields_from, methods_of, methods_from, bodies_of, bodies_of_all}
 use Rattle.jn_heads.specs.Extract.{class_head, heads}
-use Rattle.jn_places_law.specs.Written.{written_slot}
 use Rattle.jn_annotate.specs.Insertions.{type_fields, type_methods, file_fields, file_methods}
 use Rattle.jn_annotate_law.specs.Trees.{noted_types, noted_file, noted_files}
 use Rattle.jn_annotate_law.specs.Meaning.{AllPlaced}
 use Rattle.jn_heads_law.specs.Plain.{plain_head}
-use Rattle.jn_annotate_law.specs.Says.{Spelled, FilesSay}
+use Rattle.jn_annotate_law.specs.Worded.{Narrows, worded_from}
+use Rattle.jn_annotate_law.specs.Says.{AllSpelled, FilesSay}
 use Rattle.jn_annotate_law.proofs.Extracting.{heads_plain}
-use Rattle.jn_annotate_law.proofs.Positions.{quals_from, Stands, stands_left, stands_right, slots_append}
+use Rattle.jn_annotate_law.proofs.Positions.{Stands, in_all, stands_left, stands_right, slots_append}
 use Rattle.jn_annotate_law.proofs.Classes.{Parts, marked_fields_long, marked_methods_long, parts, type_methods_long, types_walk}
 
 pub slots_all_append : (hs : List ClassHead) (xs ys : List ClassHead) → slots_of_all hs (xs ++ ys) ≡ slots_of_all hs xs ++ slots_of_all hs ys
@@ -107,8 +106,8 @@ file_parts infer hs types ys c k b fs restf ms restm ts f m g =
     (f ∙ ap (λ x. x ++ restf) (fields_from_append hs c k xs ys) ∙ append_assoc A (fields_from hs c' k' ys) restf) (m ∙ ap (λ x. x ++ restm) (methods_from_append hs c k b xs ys) ∙ append_assoc D (methods_from hs c' k' b' ys) restm)
     (marked_from_long infer hs c k types ts) (marked_methods_from_long infer hs c k b types ts g)
 
-module _ (slots : List SlotInfo) (s : List Qualifier) (hs gs : List ClassHead) (same : map plain_head hs ≡ map plain_head gs) (sp : Spelled slots s) (infer : Infer) where
-  files_walk : (tokens others : List (List Token)) (trees places : List PlacedFile) (c k b : ℕ) (fs restf : List Field) (ms restm : List Method) → AllPlaced tokens trees → AllPlaced others places → map forget_file places ≡ noted_files slots s (map forget_file trees) fs ms → fs ≡ fields_from hs c k (marks infer trees) ++ restf → ms ≡ methods_from hs c k b (marks infer trees) ++ restm → FilesSay slots s (map forget_file trees) fs ms → Stands slots s k (slots_of_all hs (marks infer trees)) → slots_of_all gs (marks infer places) ≡ map written_slot (quals_from s k (length (slots_of_all hs (marks infer trees))))
+module _ (slots : List SlotInfo) (s : List Qualifier) (hs gs : List ClassHead) (same : map plain_head hs ≡ map plain_head gs) (sp : AllSpelled slots s) (infer : Infer) where
+  files_walk : (tokens others : List (List Token)) (trees places : List PlacedFile) (c k b : ℕ) (fs restf : List Field) (ms restm : List Method) → AllPlaced tokens trees → AllPlaced others places → map forget_file places ≡ noted_files slots s (map forget_file trees) fs ms → fs ≡ fields_from hs c k (marks infer trees) ++ restf → ms ≡ methods_from hs c k b (marks infer trees) ++ restm → FilesSay slots s (map forget_file trees) fs ms → Stands slots s k (slots_of_all hs (marks infer trees)) → slots_of_all gs (marks infer places) ≡ worded_from slots s k (slots_of_all hs (marks infer trees))
   files_walk [] others [] [] c k b fs restf ms restm p q e ef em say h = refl
   files_walk [] others [] (place ∷ places) c k b fs restf ms restm p q e ef em say h = cc
   files_walk [] others (tree ∷ trees) places c k b fs restf ms restm p q e ef em say h = absurd p
@@ -139,36 +138,19 @@ module _ (slots : List SlotInfo) (s : List Qualifier) (hs gs : List ClassHead) (
       let two = files_walk tokens others trees places c' k' b' (drop (file_fields bare.types) fs) restf (drop (file_methods bare.types) ms) restm p.1 q.1 others_is cut.rest_f cut.rest_m say.1 (stands_right slots s k (slots_of_all hs xs) (slots_of_all hs ys) whole) in
       ap (slots_of_all gs) new_is ∙ slots_all_append gs zs (marks infer places)
       ∙ slots_append slots s k (slots_of_all hs xs) (slots_of_all hs ys) (slots_of_all gs zs) (slots_of_all gs (marks infer places)) one two
-      ∙ ap (λ x. map written_slot (quals_from s k (length x))) (sym (ap (slots_of_all hs) head_is ∙ slots_all_append hs xs ys))
+      ∙ ap (λ x. worded_from slots s k x) (sym (ap (slots_of_all hs) head_is ∙ slots_all_append hs xs ys))
 
 -- ---- all slots
 
-quals_all : (s : List Qualifier) → quals_from s 0 (length s) ≡ s
-quals_all s = go [] s
-  where
-    go : (done left : List Qualifier) → quals_from (done ++ left) (length done) (length left) ≡ left
-    go done [] = refl
-    go done (q ∷ left) =
-        let here : slice_index_or (done ++ q ∷ left) (length done) no_qual ≡ q = at done q left in
-        let regroup : (done ++ q ∷ []) ++ left ≡ done ++ q ∷ left = append_assoc done (q ∷ []) left in
-        let long : length (done ++ q ∷ []) ≡ length done + 1 = length-append done (q ∷ []) in
-        ap (λ x. x ∷ quals_from (done ++ q ∷ left) (length done + 1) (length left)) here
-        ∙ ap (λ x. q ∷ x) (ap (λ x. quals_from x (length done + 1) (length left)) (sym regroup) ∙ ap (λ n. quals_from ((done ++ q ∷ []) ++ left) n (length left)) (sym long) ∙ go (done ++ q ∷ []) left)
-      where
-        at : (xs : List Qualifier) (y : Qualifier) (ys : List Qualifier) → slice_index_or (xs ++ y ∷ ys) (length xs) no_qual ≡ y
-        at [] y ys = refl
-        at (x ∷ xs) y ys = at xs y ys
-
 -- the slots by a choice are those of the heads in which members that are inferred count as private
-pub all_written : (infer : Infer) (tokens others : List (List Token)) (trees places : List PlacedFile) (s : List Qualifier) → let slots = slots_by infer trees in let P = table_by infer trees in length s ≡ length slots → Spelled slots s → AllPlaced tokens trees → AllPlaced others places → map forget_file places ≡ noted_files slots s (map forget_file trees) P.fields (drop 1 P.methods) → FilesSay slots s (map forget_file trees) P.fields (drop 1 P.methods) → slots_by infer places ≡ map written_slot s
-all_written infer tokens others trees places s long sp p q e say =
+pub all_written : (infer : Infer) (tokens others : List (List Token)) (trees places : List PlacedFile) (said : List SlotInfo) (s : List Qualifier) → let slots = slots_by infer trees in let P = table_by infer trees in Narrows said slots → AllSpelled said s → AllPlaced tokens trees → AllPlaced others places → map forget_file places ≡ noted_files said s (map forget_file trees) P.fields (drop 1 P.methods) → FilesSay said s (map forget_file trees) P.fields (drop 1 P.methods) → slots_by infer places ≡ worded_from said s 0 slots
+all_written infer tokens others trees places said s narrow sp p q e say =
     let hs : List ClassHead = heads trees in
     let gs : List ClassHead = heads places in
     let xs : List ClassHead = marks infer trees in
     let slots : List SlotInfo = slots_of_all hs xs in
     let fs : List Field = fields_from hs 2 0 xs in
     let ms : List Method = methods_from hs 2 0 1 xs in
-    let same = heads_plain slots s tokens others trees places fs ms p q e in
-    let stands : Stands slots s 0 (slots_of_all hs xs) = record { before = []; behind' = []; is = sym (append-nil slots); long = refl } in
-    files_walk slots s hs gs same sp infer tokens others trees places 2 0 1 fs [] ms [] p q e (sym (append-nil fs)) (sym (append-nil ms)) say stands
-    ∙ ap (λ n. map written_slot (quals_from s 0 n)) (sym long) ∙ ap (map written_slot) (quals_all s)
+    let same = heads_plain said s tokens others trees places fs ms p q e in
+    let stands : Stands said s 0 (slots_of_all hs xs) = record { whole = slots; there = in_all slots; narrow = narrow } in
+    files_walk said s hs gs same sp infer tokens others trees places 2 0 1 fs [] ms [] p q e (sym (append-nil fs)) (sym (append-nil ms)) say stands

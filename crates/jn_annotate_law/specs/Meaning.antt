@@ -1,4 +1,4 @@
--- What annotated files mean: the same program but for places, in which each slot is written as it was inferred.
+-- What annotated files mean: the same program but for places, in which each slot that gets words is written as it was inferred.
 use Rattle.std.specs.Prelude.{◌≡◌, ℕ, ◌+◌, List, [], ◌∷◌, Option, Some}
 use Rattle.jn_base.specs.declared.place.Row.{Row}
 use Rattle.jn_quals.specs.Qualifier.{Qualifier}
@@ -16,7 +16,6 @@ use Rattle.jn_trees.specs.declared.token.Token.{Token}
 use Rattle.jn_places.specs.Placed.{PlacedFile}
 use Rattle.jn_places.specs.Places.{IsPlacedFile}
 use Rattle.jn_places_law.specs.Bare.{Alike, codes_of}
-use Rattle.jn_places_law.specs.Written.{IsWritten}
 
 -- the same rows but for their places
 abbrev pub BreaksAlike : Program → Program → List Qualifier → Type 0
@@ -33,10 +32,9 @@ pub record BreaksAtTheSame (P Q : Program) (s : List Qualifier) : Type 0 where
 abbrev pub BaseAlike : Program → Program → Type 0
 BaseAlike P Q = (row : Row) → IsBaseRow P row → (other : Row) × IsBaseRow Q other × (other.code ≡ row.code)
 
--- Q is P with each slot written as the signature says: it has that signature, breaks the same rules at the same points, constructors and pairs, and is refused for its types where P is
+-- Q is P but for places and slots: it has that least signature, breaks the same rules at the same points, constructors and pairs, and is refused for its types where P is
 pub record Means (P Q : Program) (s : List Qualifier) : Type 0 where
   pub alike : Alike P Q
-  pub written : IsWritten Q s
   pub least : IsLeastSignature Q s
   pub breaks : BreaksAlike P Q s
   pub back : BreaksAlike Q P s

@@ -1,6 +1,5 @@
 -- What a signature has to say of the slots of fields and receivers, so that words for them say it: a field is committed and not free, those of one declaration are alike, and a receiver isn't null.
-use Rattle.std.specs.Prelude.{◌≡◌, ℕ, ◌+◌, true, false, List, [], ◌∷◌, drop, take, length, Option, Some, slice_get, slice_index_or}
-use Rattle.jn_quals.specs.Order.{no_qual}
+use Rattle.std.specs.Prelude.{◌≡◌, ◌+◌, true, false, List, [], ◌∷◌, drop, take, length, Option, Some}
 use Rattle.jn_annotate.specs.Words.{is_unspelled}
 use Rattle.jn_quals.specs.Qualifier.{Qualifier}
 use Rattle.jn_base.specs.declared.number.SlotNo.{SlotNo}
@@ -11,10 +10,9 @@ use Rattle.jn_trees.specs.Trees.{MemberTree, FieldMember, MethodMember, TypeDecl
 use Rattle.jn_annotate.specs.Insertions.{fields_in, methods_in, type_fields, type_methods, file_fields, file_methods, first_slot, inferred_qual}
 
 module _ (slots : List SlotInfo) (s : List Qualifier) where
-  -- a slot that isn't inferred has what is written, and one that is has a spelling
-  pub record Spelled : Type 0 where
-    pub fixed : (k : ℕ) (info : SlotInfo) → slice_get slots k ≡ Some info → info.inferred ≡ false → info.start ≡ slice_index_or s k no_qual
-    pub spelled : (x : Option SlotNo) (q : Qualifier) → inferred_qual slots s x ≡ Some q → is_unspelled q ≡ false
+  -- each slot that counts as inferred has a spelling
+  abbrev pub AllSpelled : Type 0
+  AllSpelled = (x : Option SlotNo) (q : Qualifier) → inferred_qual slots s x ≡ Some q → is_unspelled q ≡ false
 
   -- fields that share the first one's words
   abbrev pub FieldsSay : Option SlotNo → List Field → Type 0

@@ -32,11 +32,13 @@ ghost use Rattle.jn_transfer.specs.Contributions.{is_inferred};
 ghost use Rattle.jn_inference_law.specs.Solution.{IsLeastSignature};
 ghost use Rattle.jn_points.specs.declared.program.Program.{Program};
 ghost use Rattle.jn_annotate_law.specs.Meaning.{AllPlaced, Means, TextsLexed};
-ghost use Rattle.jn_annotate.specs.Annotated.{annotated_from, Annotated, has_no_spelling, has_shared_type, HasNone, is_too_large};
+ghost use Rattle.jn_annotate.specs.Annotated.{annotated_from, Annotated, AreWorded, has_no_spelling, has_shared_type, HasNone, is_too_large};
+ghost use Rattle.jn_annotate.specs.Chosen.{chosen_slots, is_default};
 ghost use Rattle.jn_annotate_law.specs.Fits.{FilesFit, TypesFit};
 ghost use Rattle.jn_annotate.specs.Insertions.{in_file};
 ghost use Rattle.jn_annotate_law.specs.Trees.{AreNoted, both_names, noted_file, noted_files, nullity_names};
-ghost use Rattle.jn_annotate_law.specs.Says.{FilesSay, Spelled};
+ghost use Rattle.jn_annotate_law.specs.Says.{AllSpelled, FilesSay};
+ghost use Rattle.jn_annotate_law.specs.Worded.{Narrows, worded_from};
 ghost use Rattle.jn_annotate_law.specs.Kept.{Kept, KeptRowless};
 ghost use Rattle.jn_lowering.specs.BodyRows.{rows_of_bodies};
 ghost use Rattle.jn_program_law.specs.FileSources.{sources};
@@ -119,10 +121,11 @@ pub fn annotated_files_have_the_same_class_rows()
 /// imports, names and annotations, since each annotation has a meaning where it stands and is the one of its kind.
 pub fn annotated_files_have_no_rows_outside_bodies()
     ensures { (infer : Infer) (tokens others : List (List Token)) (trees places : List PlacedFile)
-        (s : List Qualifier)
+        (said : List SlotInfo) (s : List Qualifier)
+        → Narrows said (inferring infer trees).slots
         → AllPlaced tokens trees → AllPlaced others places
         → map forget_file places
-        ≡ noted_files (inferring infer trees).slots s (map forget_file trees)
+        ≡ noted_files said s (map forget_file trees)
         (inferring infer trees).fields (drop 1 (inferring infer trees).methods)
         → rows_of_files trees ≡ []
         → rows_of_files places ≡ rows_of_bodies (table (heads places)) (sources places) }
@@ -138,10 +141,11 @@ pub fn annotated_files_have_no_rows()
         → codes_of (rows_of_bodies (table (heads trees)) (sources trees))
         ≡ codes_of (rows_of_bodies (table (heads places)) (sources places)) }
     ensures none { (infer : Infer) (tokens others : List (List Token))
-        (trees places : List PlacedFile) (s : List Qualifier)
+        (trees places : List PlacedFile) (said : List SlotInfo) (s : List Qualifier)
+        → Narrows said (inferring infer trees).slots
         → AllPlaced tokens trees → AllPlaced others places
         → map forget_file places
-        ≡ noted_files (inferring infer trees).slots s (map forget_file trees)
+        ≡ noted_files said s (map forget_file trees)
         (inferring infer trees).fields (drop 1 (inferring infer trees).methods)
         → rows_of_files trees ≡ [] → rows_of_files places ≡ [] }
 {}
@@ -166,25 +170,46 @@ pub fn written_words_say_the_qualifier()
         ≡ written_slot q }
 {}
 
-/// The slots of annotated files are written as the signature says, where it has a spelling for each inferred one and what is written
-/// for any other, and says of fields and receivers what can be written there.
+/// The slots of annotated files that count as inferred are written as the signature says, where each of them is inferred and has a
+/// spelling, and it says of fields and receivers what can be written there; all other slots are as they were.
 pub fn annotated_files_have_written_slots()
     ensures { (infer : Infer) (tokens others : List (List Token)) (trees places : List PlacedFile)
-        (s : List Qualifier)
-        → length s ≡ length (inferring infer trees).slots
-        → Spelled (inferring infer trees).slots s → AllPlaced tokens trees
+        (said : List SlotInfo) (s : List Qualifier)
+        → Narrows said (inferring infer trees).slots
+        → AllSpelled said s → AllPlaced tokens trees
         → AllPlaced others places
         → map forget_file places
-        ≡ noted_files (inferring infer trees).slots s (map forget_file trees)
+        ≡ noted_files said s (map forget_file trees)
         (inferring infer trees).fields (drop 1 (inferring infer trees).methods)
-        → FilesSay (inferring infer trees).slots s (map forget_file trees)
+        → FilesSay said s (map forget_file trees)
         (inferring infer trees).fields (drop 1 (inferring infer trees).methods)
-        → (inferring infer places).slots ≡ map written_slot s }
+        → (inferring infer places).slots ≡ worded_from said s 0 (inferring infer trees).slots }
 {}
 
 /// A program that differs from another one in places alone, and has each slot written as a signature says, means the same.
 pub fn written_programs_mean_what_was_inferred()
     ensures { (P Q : Program) (s : List Qualifier) → Alike P Q → IsWritten Q s → Means P Q s }
+{}
+
+/// So does one of whose slots some, whichever, are written as the least signature says: what is still inferred of it stays within what
+/// was inferred, and nothing less is closed, since what is sent grows with what it is sent under.
+pub fn partly_written_programs_mean_what_was_inferred()
+    ensures { (P Q : Program) (s : List Qualifier) (said : List SlotInfo) → IsInferable P
+        → IsLeastSignature P s → Alike P Q → Q.slots ≡ worded_from said s 0 P.slots → Means P Q s }
+{}
+
+/// Where each inferred slot has a spelling, and words aren't terse, all inferred slots get words.
+pub fn all_slots_are_chosen()
+    ensures { (P : Program) (s : List Qualifier) → HasNone (has_no_spelling P s)
+        → chosen_slots false P s ≡ P.slots }
+{}
+
+/// What counts as the default is what a position without annotations says that isn't inferred: a value, a field and a receiver.
+pub fn unwritten_positions_say_the_default()
+    ensures { (has : ℕ → Bool) → is_written (notes_by has) ≡ false
+        → (is_default (written_qual (notes_by has)) ≡ true)
+        × (is_default (field_qual (notes_by has)) ≡ true)
+        × (is_default (receiver_qual (notes_by has)) ≡ true) }
 {}
 
 /// In the least signature a slot that isn't inferred has what it starts with.
@@ -195,25 +220,25 @@ pub fn least_signatures_keep_what_is_written()
 {}
 
 /// The least signature says of fields and receivers what words can say there: an inferred field isn't free, an inferred receiver isn't
-/// null, and the fields of one declaration agree, where each inferred slot has a spelling and no type is shared by fields that differ.
+/// null, and the fields of one declaration agree, where they get words, and where no type is shared by fields that differ.
 pub fn least_signatures_say_what_can_be_written()
-    ensures { (infer : Infer) (tokens : List (List Token)) (trees : List PlacedFile)
+    ensures { (terse : Bool) (infer : Infer) (tokens : List (List Token)) (trees : List PlacedFile)
         (s : List Qualifier)
         → AllPlaced tokens trees → IsInferable (inferring infer trees)
         → IsLeastSignature (inferring infer trees) s
-        → HasNone (has_no_spelling (inferring infer trees) s)
         → HasNone (has_shared_type (inferring infer trees) s (map forget_file trees))
-        → FilesSay (inferring infer trees).slots s (map forget_file trees)
+        → FilesSay (chosen_slots terse (inferring infer trees) s) s (map forget_file trees)
         (inferring infer trees).fields (drop 1 (inferring infer trees).methods) }
 {}
 
-/// A program without inferred slots is annotated to itself, where its texts are small enough, so that annotating twice is annotating once.
+/// Where no slot counts as inferred, texts stay as they are; and a program without inferred slots is annotated to itself, where its texts
+/// are small enough, so that annotating twice is annotating once.
 pub fn nothing_is_annotated_twice()
-    ensures same { (imports : Bool) (P : Program) (s : List Qualifier) (texts names new : List (List ℕ))
-        (tokens : List (List Token)) (trees : List PlacedFile)
+    ensures same { (said : List SlotInfo) (imports : Bool) (P : Program) (s : List Qualifier)
+        (texts names new : List (List ℕ)) (tokens : List (List Token)) (trees : List PlacedFile)
         → TextsLexed 0 known_names texts tokens names → AllPlaced tokens trees
-        → NoneInferred P.slots
-        → Annotated imports P s texts tokens (map forget_file trees) new
+        → NoneInferred said
+        → AreWorded said imports P s texts tokens (map forget_file trees) new
         → new ≡ texts }
     ensures again { (imports : Bool) (P : Program) (s : List Qualifier) (texts names : List (List ℕ))
         (tokens : List (List Token)) (trees : List PlacedFile)
@@ -223,30 +248,33 @@ pub fn nothing_is_annotated_twice()
 {}
 
 /// Annotated files lex and parse, with the same names, and mean the same, under either choice of members that are inferred: their program is that
-/// of the files but for places, no slot of it is inferred, its least signature is what was inferred, and the same rules are broken at the same
-/// points, constructors and pairs, both ways; rows of types (J7 to J10) have the same codes, both ways, and annotating again changes nothing.
+/// of the files but for places, those slots of it are inferred that got no words, its least signature is what was inferred, and the same rules
+/// are broken at the same points, constructors and pairs, both ways; rows of types (J7 to J10) have the same codes, both ways, and annotating
+/// again changes nothing. Words aren't put where none say what was inferred, and, where they are terse, where it is the default.
 /// So it is with imports of annotations, which stand in the trees before those of the files, and without.
 /// Files without rows T and J keep that they have none; their programs can be inferred, since the two numbers are below 2 ^ 32 wherever a class
 /// table was built.
 pub fn annotating_keeps_meaning()
-    ensures inferable { (imports : Bool) (infer : Infer) (texts names new : List (List ℕ))
+    ensures inferable { (terse imports : Bool) (infer : Infer) (texts names new : List (List ℕ))
         (tokens : List (List Token)) (trees : List PlacedFile) (s : List Qualifier)
         → TextsLexed 0 known_names texts tokens names → AllPlaced tokens trees
         → IsInferable (inferring infer trees) → IsLeastSignature (inferring infer trees) s
-        → Annotated imports (inferring infer trees) s texts tokens (map forget_file trees) new
-        → Kept imports infer names trees s
-        (noted_files (inferring infer trees).slots s (map forget_file trees)
+        → AreWorded (chosen_slots terse (inferring infer trees) s) imports (inferring infer trees) s
+        texts tokens (map forget_file trees) new
+        → Kept terse imports infer names trees s
+        (noted_files (chosen_slots terse (inferring infer trees) s) s (map forget_file trees)
         (inferring infer trees).fields (drop 1 (inferring infer trees).methods))
         new }
-    ensures rowless { (imports : Bool) (infer : Infer) (texts names new : List (List ℕ))
+    ensures rowless { (terse imports : Bool) (infer : Infer) (texts names new : List (List ℕ))
         (tokens : List (List Token)) (trees : List PlacedFile) (s : List Qualifier)
         → TextsLexed 0 known_names texts tokens names → AllPlaced tokens trees
         → rows_of_files trees ≡ [] → length (inferring infer trees).fields < 2 ^ 32
         → length (inferring infer trees).methods < 2 ^ 32
         → IsLeastSignature (inferring infer trees) s
-        → Annotated imports (inferring infer trees) s texts tokens (map forget_file trees) new
-        → KeptRowless imports infer names trees s
-        (noted_files (inferring infer trees).slots s (map forget_file trees)
+        → AreWorded (chosen_slots terse (inferring infer trees) s) imports (inferring infer trees) s
+        texts tokens (map forget_file trees) new
+        → KeptRowless terse imports infer names trees s
+        (noted_files (chosen_slots terse (inferring infer trees) s) s (map forget_file trees)
         (inferring infer trees).fields (drop 1 (inferring infer trees).methods))
         new }
 {}
@@ -269,17 +297,17 @@ pub fn mixed_files_have_alike_programs()
 
 /// So does what `annotate` answers, of trees in memory.
 pub fn annotated_answers_keep_meaning()
-    ensures { (imports : Bool) (infer : Infer) (texts names new : List (List ℕ)) (tokens : List (List Token))
+    ensures { (terse imports : Bool) (infer : Infer) (texts names new : List (List ℕ)) (tokens : List (List Token))
         (files : List FileTree) (s : List Qualifier)
         → TextsLexed 0 known_names texts tokens names → AllPlaced tokens (map placed_file files)
         → rows_of_files (map placed_file files) ≡ []
         → length (inferring infer (map placed_file files)).fields < 2 ^ 32
         → length (inferring infer (map placed_file files)).methods < 2 ^ 32
         → IsLeastSignature (inferring infer (map placed_file files)) s
-        → Annotated imports (inferring infer (map placed_file files)) s texts tokens (map file_view files)
-        new
-        → KeptRowless imports infer names (map placed_file files) s
-        (noted_files (inferring infer (map placed_file files)).slots s (map file_view files)
+        → AreWorded (chosen_slots terse (inferring infer (map placed_file files)) s) imports
+        (inferring infer (map placed_file files)) s texts tokens (map file_view files) new
+        → KeptRowless terse imports infer names (map placed_file files) s
+        (noted_files (chosen_slots terse (inferring infer (map placed_file files)) s) s (map file_view files)
         (inferring infer (map placed_file files)).fields
         (drop 1 (inferring infer (map placed_file files)).methods))
         new }
@@ -288,14 +316,15 @@ pub fn annotated_answers_keep_meaning()
 /// Of files for which a class table was built no premise is left but that they have no row J1 to J6: trees of the texts, the least signature under
 /// either choice, and the annotated texts.
 pub fn annotating_keeps_the_meaning_of_tables(table: &ClassTable)
-    ensures { (imports : Bool) (infer : Infer) (texts names new : List (List ℕ)) (tokens : List (List Token))
+    ensures { (terse imports : Bool) (infer : Infer) (texts names new : List (List ℕ)) (tokens : List (List Token))
         (trees : List PlacedFile) (s : List Qualifier)
         → table.now.heads ≡ heads trees → j_rows trees ≡ []
         → TextsLexed 0 known_names texts tokens names → AllPlaced tokens trees
         → IsLeastSignature (inferring infer trees) s
-        → Annotated imports (inferring infer trees) s texts tokens (map forget_file trees) new
-        → KeptRowless imports infer names trees s
-        (noted_files (inferring infer trees).slots s (map forget_file trees)
+        → AreWorded (chosen_slots terse (inferring infer trees) s) imports (inferring infer trees) s
+        texts tokens (map forget_file trees) new
+        → KeptRowless terse imports infer names trees s
+        (noted_files (chosen_slots terse (inferring infer trees) s) s (map forget_file trees)
         (inferring infer trees).fields (drop 1 (inferring infer trees).methods))
         new }
 {

@@ -9,9 +9,9 @@ use Rattle.jn_cli.specs.declared.annotate.Wanted.{Wanted}
 
 -- ---- the command as clap sees it
 
--- the command as a whole: an option, three flags, and files
+-- the command as a whole: an option, four flags, and files
 unfoldable pub annotate_app : App
-annotate_app = app_with (table (codes "nullcheck_annotate") (codes "infer" ∷ []) (codes "imports" ∷ codes "check" ∷ codes "write" ∷ []))
+annotate_app = app_with (table (codes "nullcheck_annotate") (codes "infer" ∷ []) (codes "imports" ∷ codes "terse" ∷ codes "check" ∷ codes "write" ∷ []))
 
 -- the command takes the words
 abbrev pub takes_words : List (List ℕ) → Bool
@@ -22,6 +22,7 @@ abbrev pub options_in : List Row → Options
 options_in rows = record {
   infer = first_of (codes "infer") rows;
   imports = is_on (first_of (codes "imports") rows);
+  terse = is_on (first_of (codes "terse") rows);
   check = is_on (first_of (codes "check") rows);
   write = is_on (first_of (codes "write") rows);
   files = names_in rows;
@@ -49,7 +50,7 @@ mode_of check write = cond check Check (cond write Write Show)
 
 -- what options ask for
 unfoldable pub wanted_in : Options → Wanted
-wanted_in o = record { infer = infer_of o.infer; imports = o.imports; mode = mode_of o.check o.write; files = o.files }
+wanted_in o = record { infer = infer_of o.infer; terse = o.terse; imports = o.imports; mode = mode_of o.check o.write; files = o.files }
 
 -- the same where the words are taken and the options are not refused
 abbrev pub wanted_if : Bool → Bool → Options → Option Wanted

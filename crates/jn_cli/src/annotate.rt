@@ -14,7 +14,7 @@ use std::alloc::Global;
 
 static VALUES: [&str; 1] = ["infer"];
 
-static FLAGS: [&str; 3] = ["imports", "check", "write"];
+static FLAGS: [&str; 4] = ["imports", "terse", "check", "write"];
 
 /// The greatest number of files.
 const MOST_FILES: usize = 64;
@@ -35,6 +35,8 @@ pub enum Mode {
 pub struct Wanted {
     /// The members that are inferred where nothing is written; private ones where nothing is said.
     pub infer: Infer,
+    /// Whether words are left out that say no more than the default does.
+    pub terse: bool,
     /// Whether annotations that a file gets are imported.
     pub imports: bool,
     pub mode: Mode,
@@ -47,6 +49,7 @@ pub struct Wanted {
 pub struct Options {
     pub infer: Option<Text>,
     pub imports: bool,
+    pub terse: bool,
     pub check: bool,
     pub write: bool,
     pub files: Seq<Text>,
@@ -84,6 +87,7 @@ pub(crate) fn options_in(alloc: Global, matches: &ArgMatches) -> Result<Options,
     Ok(Options {
         infer: text_of(alloc, matches, "infer")?,
         imports: is_on(matches, "imports"),
+        terse: is_on(matches, "terse"),
         check: is_on(matches, "check"),
         write: is_on(matches, "write"),
         files: names_in(alloc, matches)?,
@@ -125,6 +129,7 @@ fn wanted_from(options: Options) -> Wanted
 {
     Wanted {
         infer: infer_of(&options.infer),
+        terse: options.terse,
         imports: options.imports,
         mode: mode_of(options.check, options.write),
         files: options.files,

@@ -11,11 +11,12 @@ use Rattle.jn_command.specs.declared.status.Status.{Status}
 use Rattle.jn_command.specs.declared.status.Status.TheVariants.{Ok, Rejected, Refused as RefusedStatus, RunFault, Stopped, ReadFault, WriteFault, OutOfMemory, Usage}
 use Rattle.nullcheck_annotate_top.specs.declared.changes.Change.{Change}
 use Rattle.nullcheck_annotate_top.specs.declared.output.Output.{Output}
+use Rattle.nullcheck_annotate_top.specs.declared.study.Left.{Left}
 use Rattle.nullcheck_annotate_top.specs.declared.study.Study.{Study}
 use Rattle.nullcheck_annotate_top.specs.declared.study.Study.TheVariants.{Refused, Unannotated, Annotated}
 use Rattle.nullcheck_annotate_top.specs.Answer.{AnswersBy, DoesAll, Effects, Ends}
 use Rattle.nullcheck_annotate_top.specs.Changes.{changes}
-use Rattle.nullcheck_annotate_top.specs.Output.{IsOutput, changed_output, output_of, status_of_changes}
+use Rattle.nullcheck_annotate_top.specs.Output.{IsOutput, changed_output, output_of, status_of_changes, told_after}
 
 -- statuses after which all was done
 abbrev pub Done : Status → Type 0
@@ -40,11 +41,15 @@ changed_done Write cs = tt
 
 study_done : (mode : Mode) (files : List SourceFile) (study : Study) → Done (output_of mode files study).status
 study_done mode files (Refused rows) = tt
-study_done mode files (Unannotated fault part span) = tt
-study_done mode files (Annotated new) = changed_done mode (changes files new)
+study_done mode files (Unannotated fault span) = tt
+study_done mode files (Annotated new left) = told_done left (changed_output mode (changes files new)) (changed_done mode (changes files new))
+  where
+    told_done : (left : List Left) (output : Output) → Done output.status → Done (told_after files left output).status
+    told_done [] output d = d
+    told_done (l ∷ left) output d = tt
 
-pub output_done : (infer : Infer) (imports : Bool) (mode : Mode) (files : List SourceFile) (output : Output) → IsOutput infer imports mode files output → Done output.status
-output_done infer imports mode files output is = subst (λ (o : Output). Done o.status) (sym is.comes) (study_done mode files is.study)
+pub output_done : (infer : Infer) (terse imports : Bool) (mode : Mode) (files : List SourceFile) (output : Output) → IsOutput infer terse imports mode files output → Done output.status
+output_done infer terse imports mode files output is = subst (λ (o : Output). Done o.status) (sym is.comes) (study_done mode files is.study)
 
 module _ (Defined : Output → Type 0) (output : Output) (e : Effects) (defined : Defined output) (done : Done output.status) where
   whole : (status : Status) → Done status → output.status ≡ status → DoesAll output e → AnswersBy Defined e status

@@ -19,7 +19,7 @@ pub few_words : (words : List (String Global)) (files : List (List ℕ)) → map
 few_words words files named few = let long = length-map words string_bytes in let same : length (map string_bytes words) ≡ length files = ap length named in omega (arith, long, same, few)
 
 -- the output of what was read is that of the files that are asked for
-pub output_of_read : (held : Option Holding) (before now : List Given) (names : List (List ℕ)) (reads : List SourceRead) (wanted : Wanted) (output : Output) → names ≡ wanted.files → (from : ReadFrom held names before now reads) → ((files : List SourceFile) → AreReads reads files → IsOutput wanted.infer wanted.imports wanted.mode files output) → IsOutputOf (reading held before now) wanted output
+pub output_of_read : (held : Option Holding) (before now : List Given) (names : List (List ℕ)) (reads : List SourceRead) (wanted : Wanted) (output : Output) → names ≡ wanted.files → (from : ReadFrom held names before now reads) → ((files : List SourceFile) → AreReads reads files → IsOutput wanted.infer wanted.terse wanted.imports wanted.mode files output) → IsOutputOf (reading held before now) wanted output
 output_of_read held before now names reads wanted output named from is = record {
   files = from.files;
   are = record { named = from.named ∙ named; told = λ few. from.told; given = λ few. from.given };

@@ -16,13 +16,13 @@ use Rattle.nullcheck_annotate_top.specs.declared.output.Output.{Output}
 use Rattle.nullcheck_annotate_top.specs.Output.{IsOutput, only}
 
 abbrev pub usage_line : List ℕ
-usage_line = codes "usage: nullcheck_annotate [--infer NAME] [--imports] [--check] [--write] FILE..\n"
+usage_line = codes "usage: nullcheck_annotate [--infer NAME] [--imports] [--terse] [--check] [--write] FILE..\n"
 
 -- it is that of the files that the words name, with the bytes that the source tells and that its reads gave
 pub record IsOutputOf (read : Reading) (wanted : Wanted) (output : Output) : Type 0 where
   pub files : List SourceFile
   pub are : AreFiles read wanted.files files
-  pub is : IsOutput wanted.infer wanted.imports wanted.mode files output
+  pub is : IsOutput wanted.infer wanted.terse wanted.imports wanted.mode files output
 
 -- the output that the files and what is asked for define
 abbrev pub Defines : Reading → Option Wanted → Output → Type 0

@@ -6,8 +6,6 @@ use Rattle.jn_points.specs.declared.program.Method.{Method}
 use Rattle.jn_points.specs.declared.program.Program.{Program}
 use Rattle.jn_points.specs.Members.{some_of}
 use Rattle.jn_sigs.specs.Signature.{is_slot, method_has_slot}
-use Rattle.jn_annotate.specs.declared.annotating.AnnotateFault.{AnnotateFault}
-use Rattle.jn_annotate.specs.declared.annotating.AnnotateFault.TheVariants.{NoSpelling, NameTaken, SharedType, TooLarge}
 use Rattle.nullcheck_annotate_top.specs.declared.parts.Part.{Part}
 use Rattle.nullcheck_annotate_top.specs.declared.parts.Part.TheVariants.{OfField, Parameter, Receiver, Result}
 
@@ -37,13 +35,6 @@ part_of_methods i (m ∷ ms) = cond (method_has_slot i m) (Some (part_in i m)) (
 -- the part of a declaration whose position slot i is; none of what is no slot
 abbrev pub slot_part : Program → ℕ → Option Part
 slot_part P i = cond (is_of_field i P.fields) (Some OfField) (part_of_methods i P.methods)
-
--- the part that the fault's cure names: where no annotation says a qualifier
-abbrev pub fault_part : Program → AnnotateFault → Option Part
-fault_part P (NoSpelling slot) = slot_part P slot.0
-fault_part P (NameTaken slot) = None
-fault_part P (SharedType slot) = None
-fault_part P (TooLarge file) = None
 
 -- a parameter by its number from 0, in words
 abbrev pub parameter_words : ℕ → List ℕ

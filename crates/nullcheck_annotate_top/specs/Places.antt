@@ -1,4 +1,4 @@
--- Where files that get no annotated texts are told so.
+-- Where it is told that files get no annotated texts, or that a slot is left without words.
 use Rattle.std.specs.Prelude.{ℕ, cond, List, [], ◌∷◌, Option, Some, None, unwrap_or}
 use Rattle.jn_base.specs.declared.place.Span.{Span}
 use Rattle.jn_points.specs.declared.program.Field.{Field}
@@ -6,7 +6,7 @@ use Rattle.jn_points.specs.declared.program.Method.{Method}
 use Rattle.jn_points.specs.declared.program.Program.{Program}
 use Rattle.jn_sigs.specs.Signature.{is_slot, method_has_slot}
 use Rattle.jn_annotate.specs.declared.annotating.AnnotateFault.{AnnotateFault}
-use Rattle.jn_annotate.specs.declared.annotating.AnnotateFault.TheVariants.{NoSpelling, NameTaken, SharedType, TooLarge}
+use Rattle.jn_annotate.specs.declared.annotating.AnnotateFault.TheVariants.{NameTaken, SharedType, TooLarge}
 
 -- the first byte of a file
 abbrev pub file_start : ℕ → Span
@@ -30,7 +30,6 @@ slot_span P i = first_span (field_span i P.fields) (method_span i P.methods)
 
 -- where a fault stands: at the slot's declaration, or at the first byte of the file
 abbrev pub fault_span : Program → AnnotateFault → Span
-fault_span P (NoSpelling slot) = slot_span P slot.0
 fault_span P (NameTaken slot) = slot_span P slot.0
 fault_span P (SharedType slot) = slot_span P slot.0
 fault_span P (TooLarge file) = file_start file.0

@@ -42,6 +42,7 @@ fn output_of_reads<R: Threads + Sync, G: Gate + Sync>(
     gate: &G,
     alloc: Global,
     infer: Infer,
+    terse: bool,
     imports: bool,
     mode: Mode,
     reads: &[SourceRead],
@@ -50,9 +51,9 @@ fn output_of_reads<R: Threads + Sync, G: Gate + Sync>(
     requires fit { ReadsFit reads.now }
     requires read { (files : List SpecFile) × AreReads reads.now files }
     ensures { IfOk result (λ o. (files : List SpecFile) → AreReads reads.now files
-        → IsOutput infer imports mode files o) }
+        → IsOutput infer terse imports mode files o) }
 {
-    let study = study_files(rt, gate, alloc, WORKERS, infer, imports, reads)?;
+    let study = study_files(rt, gate, alloc, WORKERS, infer, terse, imports, reads)?;
     output_of(alloc, mode, reads, study)
 }
 
@@ -97,6 +98,7 @@ pub fn answer_wanted<R: Threads + Sync, G: Gate + Sync, F: Files, K: Sink, T: Ta
         gate,
         alloc,
         wanted.infer,
+        wanted.terse,
         wanted.imports,
         wanted.mode,
         &reads,

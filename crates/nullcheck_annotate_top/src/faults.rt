@@ -1,4 +1,4 @@
-//! Where files that get no annotated texts are told so, and the line that says it.
+//! Where it is told that files get no annotated texts, or that a slot is left without words, and the lines that say it.
 ghost use Rattle.std.specs.Prelude.{◌≡◌, ◌≤◌, ◌++◌, codes, length, IfOk};
 ghost use Rattle.jn_base.specs.Place.{place_in};
 ghost use Rattle.jn_front.specs.Counted.{ReadsFit};
@@ -9,6 +9,7 @@ ghost use Rattle.nullcheck_annotate_top.specs.Output as output;
 ghost use Rattle.nullcheck_annotate_top.specs.Places as spec;
 
 use crate::parts::{Part, part_words};
+use crate::study::Left;
 use itoa::{Buffer, Integer};
 use jn_annotate::AnnotateFault;
 use jn_base::place::place_of;
@@ -84,7 +85,7 @@ fn method_span(slot: u32, methods: &[Method]) -> Option<Span>
 }
 
 /// The name of the slot's field, or of the method whose parameter, receiver or result it is.
-fn slot_span(program: &Program, slot: u32) -> Span
+pub(crate) fn slot_span(program: &Program, slot: u32) -> Span
     ensures { result ≡ spec.slot_span program.now slot }
 {
     match field_span(slot, program.fields.as_slice()) {
@@ -101,7 +102,6 @@ pub(crate) fn fault_span(program: &Program, fault: AnnotateFault) -> Span
     ensures { result ≡ spec.fault_span program.now fault }
 {
     match fault {
-        AnnotateFault::NoSpelling(slot) => slot_span(program, slot.0),
         AnnotateFault::NameTaken(slot) => slot_span(program, slot.0),
         AnnotateFault::SharedType(slot) => slot_span(program, slot.0),
         AnnotateFault::TooLarge(file) => file_start(file.0),
@@ -113,7 +113,6 @@ fn fault_code(fault: AnnotateFault) -> &'static [u8]
     ensures { result.now ≡ output.fault_code fault }
 {
     match fault {
-        AnnotateFault::NoSpelling(_) => b"NO-SPELLING",
         AnnotateFault::NameTaken(_) => b"NAME-TAKEN",
         AnnotateFault::SharedType(_) => b"SHARED-TYPE",
         AnnotateFault::TooLarge(_) => b"TOO-LARGE",
@@ -157,24 +156,24 @@ fn bare_line(alloc: Global, code: &[u8]) -> Result<Vec<u8>, AllocError>
     Ok(line)
 }
 
-/// The line of a fault's place.
+/// The line of a place, with a code.
 fn place_line(
     alloc: Global,
     reads: &[SourceRead],
-    fault: AnnotateFault,
+    code: &[u8],
     span: Span,
 ) -> Result<Vec<u8>, AllocError>
     requires fit { ReadsFit reads.now }
     ensures { IfOk result
-        (λ line. line.items ≡ output.place_line (files_of_reads reads.now) fault span) }
+        (λ line. line.items ≡ output.place_line (files_of_reads reads.now) code.now span) }
 {
     let file = span.file.0 as usize;
     if file < reads.len() {
         let read = &reads[file];
         let place = place_within(read.file.bytes.as_slice(), span);
-        placed_line(alloc, read.file.name.as_str(), place, fault_code(fault))
+        placed_line(alloc, read.file.name.as_str(), place, code)
     } else {
-        bare_line(alloc, fault_code(fault))
+        bare_line(alloc, code)
     }
 }
 
@@ -189,23 +188,15 @@ fn spelling_cure(alloc: Global, part: Option<Part>) -> Result<Vec<u8>, AllocErro
 }
 
 /// What can be done about a fault.
-fn fault_cure(
-    alloc: Global,
-    fault: AnnotateFault,
-    part: Option<Part>,
-) -> Result<Vec<u8>, AllocError>
-    ensures { IfOk result (λ cure. cure.items ≡ output.fault_cure fault part) }
+fn fault_cure(fault: AnnotateFault) -> &'static [u8]
+    ensures { result.now ≡ output.fault_cure fault }
 {
     match fault {
-        AnnotateFault::NoSpelling(_) => spelling_cure(alloc, part),
-        AnnotateFault::NameTaken(_) => Vec::from_slice(
-            alloc,
-            b"cure: give the type that has the annotation's name another one, or leave --imports out\n",
-        ),
-        AnnotateFault::SharedType(_) => {
-            Vec::from_slice(alloc, b"cure: declare the fields one by one\n")
+        AnnotateFault::NameTaken(_) => {
+            b"cure: give the type that has the annotation's name another one, or leave --imports out\n"
         }
-        AnnotateFault::TooLarge(_) => Vec::from_slice(alloc, b"cure: split the file\n"),
+        AnnotateFault::SharedType(_) => b"cure: declare the fields one by one\n",
+        AnnotateFault::TooLarge(_) => b"cure: split the file\n",
     }
 }
 
@@ -214,15 +205,58 @@ pub(crate) fn fault_text(
     alloc: Global,
     reads: &[SourceRead],
     fault: AnnotateFault,
-    part: Option<Part>,
     span: Span,
 ) -> Result<Vec<u8>, AllocError>
     requires fit { ReadsFit reads.now }
     ensures { IfOk result
-        (λ text. text.items ≡ output.fault_text (files_of_reads reads.now) fault part span) }
+        (λ text. text.items ≡ output.fault_text (files_of_reads reads.now) fault span) }
 {
-    let mut text = place_line(alloc, reads, fault, span)?;
-    let cure = fault_cure(alloc, fault, part)?;
+    let mut text = place_line(alloc, reads, fault_code(fault), span)?;
+    text.extend_from_slice(fault_cure(fault))?;
+    Ok(text)
+}
+
+/// The lines of a slot that is left without words: its place, and its cure.
+fn left_text(alloc: Global, reads: &[SourceRead], left: Left) -> Result<Vec<u8>, AllocError>
+    requires fit { ReadsFit reads.now }
+    ensures { IfOk result
+        (λ text. text.items ≡ output.left_text (files_of_reads reads.now) left) }
+{
+    let mut text = place_line(alloc, reads, b"NO-SPELLING", left.span)?;
+    let cure = spelling_cure(alloc, left.part)?;
     text.extend_from_slice(&cure)?;
+    Ok(text)
+}
+
+/// Puts those of one more slot after the others.
+fn put_left(
+    alloc: Global,
+    text: &mut Vec<u8>,
+    reads: &[SourceRead],
+    left: Left,
+) -> Result<(), AllocError>
+    requires fit { ReadsFit reads.now }
+    ensures { IfOk result (λ u. text.new.items
+        ≡ text.old.items ++ output.left_text (files_of_reads reads.now) left) }
+{
+    let lines = left_text(alloc, reads, left)?;
+    text.extend_from_slice(&lines)?;
+    Ok(())
+}
+
+/// Those of all slots that are left so.
+pub(crate) fn left_texts(
+    alloc: Global,
+    reads: &[SourceRead],
+    left: &[Left],
+) -> Result<Vec<u8>, AllocError>
+    requires fit { ReadsFit reads.now }
+    ensures { IfOk result
+        (λ text. text.items ≡ output.left_texts (files_of_reads reads.now) left.now) }
+{
+    let mut text = Vec::new(alloc);
+    for slot in left {
+        put_left(alloc, &mut text, reads, *slot)?;
+    }
     Ok(text)
 }

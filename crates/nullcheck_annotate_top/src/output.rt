@@ -12,9 +12,8 @@ ghost use Rattle.nullcheck_annotate_top.specs.Output as spec;
 ghost use Rattle.nullcheck_annotate_top.specs.Study.{IsOf};
 
 use crate::changes::{Change, changes, diffs, replacements};
-use crate::faults::fault_text;
-use crate::parts::Part;
-use crate::study::Study;
+use crate::faults::{fault_text, left_texts};
+use crate::study::{Left, Study};
 use jn_annotate::AnnotateFault;
 use jn_base::{OutOfMemory, Row, Seq, Span};
 use jn_cli::Mode;
@@ -115,19 +114,55 @@ fn changed_output(alloc: Global, mode: Mode, changes: &[Change]) -> Result<Outpu
     }
 }
 
-/// The output of annotated texts of files.
+/// The output with slots after it that are left without words.
+fn told_after(
+    alloc: Global,
+    reads: &[SourceRead],
+    left: &[Left],
+    output: Output,
+) -> Result<Output, OutOfMemory>
+    requires fit { ReadsFit reads.now }
+    ensures { IfOk result
+        (λ o. o ≡ spec.told_after (files_of_reads reads.now) left.now output) }
+{
+    match left {
+        [] => Ok(output),
+        _ => {
+            let Output {
+                bytes,
+                replaced,
+                ..
+            } = output;
+            let mut text = Vec::from_slice(alloc, bytes.as_slice())?;
+            drop(bytes);
+            let lines = left_texts(alloc, reads, left)?;
+            text.extend_from_slice(&lines)?;
+            Ok(Output {
+                status: Status::Rejected,
+                bytes: Seq::of_vec(text),
+                replaced,
+            })
+        }
+    }
+}
+
+/// The output of annotated texts of files, and of what is left of them.
 fn annotated_output(
     alloc: Global,
     mode: Mode,
     reads: &[SourceRead],
     texts: &[Seq<u8>],
+    left: &[Left],
 ) -> Result<Output, OutOfMemory>
+    requires fit { ReadsFit reads.now }
     ensures { IfOk result (λ o. o
-        ≡ spec.changed_output mode
-        (changes_spec.changes (files_of_reads reads.now) texts.now)) }
+        ≡ spec.told_after (files_of_reads reads.now) left.now
+        (spec.changed_output mode
+        (changes_spec.changes (files_of_reads reads.now) texts.now))) }
 {
     let changes = changes(alloc, reads, texts)?;
-    changed_output(alloc, mode, &changes)
+    let output = changed_output(alloc, mode, &changes)?;
+    told_after(alloc, reads, left, output)
 }
 
 /// The output of a fault.
@@ -135,14 +170,13 @@ fn fault_output(
     alloc: Global,
     reads: &[SourceRead],
     fault: AnnotateFault,
-    part: Option<Part>,
     span: Span,
 ) -> Result<Output, OutOfMemory>
     requires fit { ReadsFit reads.now }
     ensures { IfOk result (λ o. o
-        ≡ spec.only Status.Rejected (spec.fault_text (files_of_reads reads.now) fault part span)) }
+        ≡ spec.only Status.Rejected (spec.fault_text (files_of_reads reads.now) fault span)) }
 {
-    let text = fault_text(alloc, reads, fault, part, span)?;
+    let text = fault_text(alloc, reads, fault, span)?;
     Ok(only(alloc, Status::Rejected, text))
 }
 
@@ -164,7 +198,9 @@ pub fn output_of(
 {
     match study {
         Study::Refused(rows) => refused_output(alloc, reads, rows),
-        Study::Unannotated(fault, part, span) => fault_output(alloc, reads, fault, part, span),
-        Study::Annotated(texts) => annotated_output(alloc, mode, reads, texts.as_slice()),
+        Study::Unannotated(fault, span) => fault_output(alloc, reads, fault, span),
+        Study::Annotated(texts, left) => {
+            annotated_output(alloc, mode, reads, texts.as_slice(), left.as_slice())
+        }
     }
 }

@@ -3,7 +3,6 @@ ghost use Rattle.std.specs.Prelude.{◌≡◌};
 ghost use Rattle.nullcheck_annotate_top.specs.Parts as spec;
 
 use crate::faults::{has_slot, is_slot};
-use jn_annotate::AnnotateFault;
 use jn_base::SlotNo;
 use jn_points::{Field, Method, Program};
 
@@ -69,25 +68,13 @@ fn part_of_methods(slot: u32, methods: &[Method]) -> Option<Part>
 }
 
 /// The part of a declaration whose position the slot is; none of what is no slot.
-fn slot_part(program: &Program, slot: u32) -> Option<Part>
+pub(crate) fn slot_part(program: &Program, slot: u32) -> Option<Part>
     ensures { result ≡ spec.slot_part program.now slot }
 {
     if is_of_field(slot, program.fields.as_slice()) {
         Some(Part::OfField)
     } else {
         part_of_methods(slot, program.methods.as_slice())
-    }
-}
-
-/// The part of a declaration that the fault's cure names; none where it names none.
-pub(crate) fn fault_part(program: &Program, fault: AnnotateFault) -> Option<Part>
-    ensures { result ≡ spec.fault_part program.now fault }
-{
-    match fault {
-        AnnotateFault::NoSpelling(slot) => slot_part(program, slot.0),
-        AnnotateFault::NameTaken(_) => None,
-        AnnotateFault::SharedType(_) => None,
-        AnnotateFault::TooLarge(_) => None,
     }
 }
 

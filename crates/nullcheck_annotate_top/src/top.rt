@@ -20,7 +20,7 @@ use std::alloc::Global;
 use std::thread::Threads;
 
 const USAGE: &str =
-    "usage: nullcheck_annotate [--infer NAME] [--imports] [--check] [--write] FILE..\n";
+    "usage: nullcheck_annotate [--infer NAME] [--imports] [--terse] [--check] [--write] FILE..\n";
 
 /// The output of words that are no command's.
 fn usage_output(alloc: Global) -> Result<Output, OutOfMemory>

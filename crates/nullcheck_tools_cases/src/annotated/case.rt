@@ -29,7 +29,7 @@ fn number(word: &str, name: &str) -> Option<u32> {
 
 /// Whether the word says what is done with the files.
 fn is_mode(word: &str) -> bool {
-    word == "--imports" || word == "--write" || word == "--check"
+    word == "--imports" || word == "--terse" || word == "--write" || word == "--check"
 }
 
 /// The name that leads to what is no plain file, where the word sets one.

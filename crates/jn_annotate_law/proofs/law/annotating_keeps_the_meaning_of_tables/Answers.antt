@@ -8,9 +8,9 @@ use Rattle.jn_annotate_law.proofs.Saying.{kept_rowless}
 use Rattle.jn_annotate_law.proofs.law.annotating_keeps_the_meaning_of_tables.Goals as goal
 
 pub returns : goal.returns
-returns c = λ imports infer texts names new tokens trees s is none lexed placed least annotated.
+returns c = λ terse imports infer texts names new tokens trees s is none lexed placed least annotated.
     let f = c.facts.ensures in
-    kept_rowless imports infer texts names new tokens trees s lexed placed
+    kept_rowless terse imports infer texts names new tokens trees s lexed placed
     (together trees (subst (λ (hs : List ClassHead). t_rows hs ≡ []) is f.rows) none)
     (subst (λ (hs : List ClassHead). length (table hs).fields < 2 ^ 32) is f.fields)
     (subst (λ (hs : List ClassHead). length (table hs).methods < 2 ^ 32) is f.methods) least annotated

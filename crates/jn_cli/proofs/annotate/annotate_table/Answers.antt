@@ -7,5 +7,5 @@ pub returns : goal.returns
 unfolding annotate_app
 returns c =
     let values : map (λ n. n.now) c.as_slice.result.now ≡ codes "infer" ∷ [] = search rules in
-    let flags : map (λ n. n.now) c.as_slice-2.result.now ≡ codes "imports" ∷ codes "check" ∷ codes "write" ∷ [] = search rules in
+    let flags : map (λ n. n.now) c.as_slice-2.result.now ≡ codes "imports" ∷ codes "terse" ∷ codes "check" ∷ codes "write" ∷ [] = search rules in
     λ i. app_with (table (codes "nullcheck_annotate") (values i) (flags i))

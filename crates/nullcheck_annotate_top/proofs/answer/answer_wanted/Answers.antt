@@ -36,7 +36,7 @@ returns-in-Ok-output_of_reads-clause-answer g c =
     let defined = output_of_read held before now (map string_bytes words) c.deref-2.result.now wanted output named from c.in-Ok-output_of_reads.ensures in
     answers (Defines (reading held before now) (Some wanted)) output
     (effects (g.K.Sink.written c.args.out.now) (g.K.Sink.written c.finish.new.out) (g.T.Targets.replaced c.args.targets.now) (g.T.Targets.replaced c.finish.new.targets))
-    defined (output_done wanted.infer wanted.imports wanted.mode defined.files output defined.is)
+    defined (output_done wanted.infer wanted.terse wanted.imports wanted.mode defined.files output defined.is)
     (g.K.Sink.faults c.args.out.now) (g.K.Sink.faults c.finish.new.out) (g.T.Targets.faults c.args.targets.now) (g.T.Targets.faults c.finish.new.targets) c.finish.result c.finish.ensures.ends
 
 pub returns-in-Ok-output_of_reads-clause-read : goal.returns-in-Ok-output_of_reads-clause-read
@@ -52,7 +52,7 @@ returns-in-Ok-output_of_reads-clause-read g c e =
     let defined = output_of_read held before now (map string_bytes words) c.deref-2.result.now wanted output named from c.in-Ok-output_of_reads.ensures in
     absurd (never_read (Defines (reading held before now) (Some wanted)) output
     (effects (g.K.Sink.written c.args.out.now) (g.K.Sink.written c.finish.new.out) (g.T.Targets.replaced c.args.targets.now) (g.T.Targets.replaced c.finish.new.targets))
-    defined (output_done wanted.infer wanted.imports wanted.mode defined.files output defined.is)
+    defined (output_done wanted.infer wanted.terse wanted.imports wanted.mode defined.files output defined.is)
     (g.K.Sink.faults c.args.out.now) (g.K.Sink.faults c.finish.new.out) (g.T.Targets.faults c.args.targets.now) (g.T.Targets.faults c.finish.new.targets) c.finish.result c.finish.ensures.ends e)
 
 pub returns-in-Ok-output_of_reads-clause-read_steady : goal.returns-in-Ok-output_of_reads-clause-read_steady
@@ -68,7 +68,7 @@ returns-in-Ok-output_of_reads-clause-read_steady g c steady all e =
     let defined = output_of_read held before now (map string_bytes words) c.deref-2.result.now wanted output named from c.in-Ok-output_of_reads.ensures in
     never_read (Defines (reading held before now) (Some wanted)) output
     (effects (g.K.Sink.written c.args.out.now) (g.K.Sink.written c.finish.new.out) (g.T.Targets.replaced c.args.targets.now) (g.T.Targets.replaced c.finish.new.targets))
-    defined (output_done wanted.infer wanted.imports wanted.mode defined.files output defined.is)
+    defined (output_done wanted.infer wanted.terse wanted.imports wanted.mode defined.files output defined.is)
     (g.K.Sink.faults c.args.out.now) (g.K.Sink.faults c.finish.new.out) (g.T.Targets.faults c.args.targets.now) (g.T.Targets.faults c.finish.new.targets) c.finish.result c.finish.ensures.ends e
 
 pub returns-in-Ok-output_of_reads-clause-write : goal.returns-in-Ok-output_of_reads-clause-write
@@ -84,5 +84,5 @@ returns-in-Ok-output_of_reads-clause-write g c e =
     let defined = output_of_read held before now (map string_bytes words) c.deref-2.result.now wanted output named from c.in-Ok-output_of_reads.ensures in
     fault_rose (Defines (reading held before now) (Some wanted)) output
     (effects (g.K.Sink.written c.args.out.now) (g.K.Sink.written c.finish.new.out) (g.T.Targets.replaced c.args.targets.now) (g.T.Targets.replaced c.finish.new.targets))
-    defined (output_done wanted.infer wanted.imports wanted.mode defined.files output defined.is)
+    defined (output_done wanted.infer wanted.terse wanted.imports wanted.mode defined.files output defined.is)
     (g.K.Sink.faults c.args.out.now) (g.K.Sink.faults c.finish.new.out) (g.T.Targets.faults c.args.targets.now) (g.T.Targets.faults c.finish.new.targets) c.finish.result c.finish.ensures.ends e

@@ -12,11 +12,11 @@ study_typed-requires-clause-program g c κs within =
     let trees = map placed_file c.args.trees.now in
     let typed = subst (λ base. (files : List SourceFile) → AreReads c.args.reads.now files → IsTypedOr c.args.infer files c.args.names.now trees c.args.rows base) c.in-Some.is c.requires.typed in
     let whole = c.requires.whole (subst IsSome (sym c.in-Some.is) refl) in
-    typed_here c.args.infer c.args.imports c.args.reads.now c.args.names.now trees c.args.rows c.in-Some.base c.requires.read typed whole
+    typed_here c.args.infer c.args.terse c.args.imports c.args.reads.now c.args.names.now trees c.args.rows c.in-Some.base c.requires.read typed whole
 
 pub returns-in-Some-clause-of : goal.returns-in-Some-clause-of
 returns-in-Some-clause-of g c =
     let trees = map placed_file c.args.trees.now in
     let typed = subst (λ base. (files : List SourceFile) → AreReads c.args.reads.now files → IsTypedOr c.args.infer files c.args.names.now trees c.args.rows base) c.in-Some.is c.requires.typed in
     let whole = c.requires.whole (subst IsSome (sym c.in-Some.is) refl) in
-    of_made c.args.infer c.args.imports c.args.reads.now c.args.names.now trees c.args.rows c.in-Some.base c.requires.read typed whole c.study_typed.result
+    of_made c.args.infer c.args.terse c.args.imports c.args.reads.now c.args.names.now trees c.args.rows c.in-Some.base c.requires.read typed whole c.study_typed.result
