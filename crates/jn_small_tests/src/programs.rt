@@ -43,7 +43,8 @@ fn annotate_answer(alloc: Global, words: &[String]) -> Result<String, AllocError
         Ok(wanted) => {
             let infer = infer_name(wanted.infer);
             let mode = mode_name(wanted.mode);
-            format!(in alloc; "{infer} {} {mode} {}", wanted.imports, wanted.files.len())
+            let (imports, terse) = (wanted.imports, wanted.terse);
+            format!(in alloc; "{infer} {imports} {terse} {mode} {}", wanted.files.len())
         }
         Err(Fail::Refused(_)) => reason(annotate_reason(alloc, words)),
         Err(Fail::OutOfMemory) => Err(AllocError),
@@ -123,15 +124,16 @@ fn expect(rt: &impl Abort, alloc: Global, program: Program, line: &str, want: &s
 #[test]
 fn annotates(rt: HostRuntime) {
     for (line, want) in [
-        ("A.java", "private false show 1"),
+        ("A.java", "private false false show 1"),
         (
             "A.java|--infer=package|--write|B.java",
-            "package false write 2",
+            "package false false write 2",
         ),
         (
             "--imports|--check|--|A.java|--write",
-            "private true check 2",
+            "private true false check 2",
         ),
+        ("--terse|A.java", "private false true show 1"),
         ("--check|--write|A.java", "--check stands beside --write"),
         ("--imports", "no file is named"),
         ("A.java|--infer|all", "--infer takes `private` or `package`"),
