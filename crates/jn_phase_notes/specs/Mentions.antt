@@ -5,7 +5,7 @@ use Rattle.jn_trees.specs.declared.expression.Identifier.{Identifier}
 use Rattle.jn_places.specs.Placed.{PlacedTree, PlacedTrees, NoPlacedTrees, MorePlacedTrees, PlacedLiteral, PlacedName, PlacedThis, PlacedParen, PlacedField, PlacedCall, PlacedOwnCall, PlacedSuperCall, PlacedIndex, PlacedNew, PlacedNewArray, PlacedArrayOf, PlacedPostfix, PlacedPrefix, PlacedUnary, PlacedCast, PlacedBinary, PlacedInstanceOf, PlacedConditional, PlacedAssign, PlacedDeclarator, PlacedLocal, PlacedInit, PlacedExpressions, PlacedDeclaration, PlacedStatement, PlacedStatements, PlacedBlock, PlacedEmpty, PlacedExpression, PlacedBreak, PlacedContinue, PlacedReturn, PlacedLocalStatement, PlacedIf, PlacedIfElse, PlacedWhile, PlacedDo, PlacedFor, PlacedForEach, PlacedThisCall, PlacedSuperCallStatement, NoPlacedStatements, MorePlacedStatements, PlacedMember, PlacedFieldMember, PlacedMethod, PlacedConstructor, PlacedType, PlacedClass, PlacedInterface, PlacedFile}
 use Rattle.jn_lowering.specs.Scopes.{count}
 use Rattle.jn_phase_notes.specs.declared.mentioning.Kind.{Kind}
-use Rattle.jn_phase_notes.specs.declared.mentioning.Kind.TheVariants.{Calls, Makes, Reads}
+use Rattle.jn_phase_notes.specs.declared.mentioning.Kind.TheVariants.{Calls, Makes, Builds, Reads}
 use Rattle.jn_phase_notes.specs.declared.mentioning.Mention.{Mention}
 
 -- a member by its name, named at this place, with so many arguments
@@ -62,7 +62,7 @@ init_mentions (PlacedDeclaration l) = local_mentions l
 -- a construction by the constructor of the class that is extended, where one is named (JLS 8, 8.8.7)
 abbrev pub super_mention : Option Identifier → Span → ℕ → List Mention
 super_mention None span arguments = []
-super_mention (Some parent) span arguments = mention Makes parent span arguments ∷ []
+super_mention (Some parent) span arguments = mention Builds parent span arguments ∷ []
 
 -- in a class of this name that extends that one
 module _ (own : Identifier) (parent : Option Identifier) where
@@ -82,7 +82,7 @@ module _ (own : Identifier) (parent : Option Identifier) where
     statement_mentions (PlacedDo body q span) = statement_mentions body ++ mentions q
     statement_mentions (PlacedFor start q update body span) = init_mentions start ++ (optional_mentions q ++ (mentions_of_all update ++ statement_mentions body))
     statement_mentions (PlacedForEach marks u name array body span) = mentions array ++ statement_mentions body
-    statement_mentions (PlacedThisCall es span) = mention Makes own span (count es) ∷ mentions_of_all es
+    statement_mentions (PlacedThisCall es span) = mention Builds own span (count es) ∷ mentions_of_all es
     statement_mentions (PlacedSuperCallStatement es span) = super_mention parent span (count es) ++ mentions_of_all es
 
     -- of statements one after the other

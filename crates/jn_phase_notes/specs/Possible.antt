@@ -18,7 +18,7 @@ use Rattle.jn_phase_notes.specs.declared.candidates.Candidate.{Candidate}
 use Rattle.jn_phase_notes.specs.declared.candidates.How.{How}
 use Rattle.jn_phase_notes.specs.declared.candidates.How.TheVariants.{OtherArity, OtherMaker, StaticMethod, AbstractMethod, ObjectMethod, StaticField, ObjectField, AbstractClass, InterfaceType}
 use Rattle.jn_phase_notes.specs.declared.mentioning.Kind.{Kind}
-use Rattle.jn_phase_notes.specs.declared.mentioning.Kind.TheVariants.{Calls, Makes, Reads}
+use Rattle.jn_phase_notes.specs.declared.mentioning.Kind.TheVariants.{Calls, Makes, Builds, Reads}
 use Rattle.jn_phase_notes.specs.declared.mentioning.Mention.{Mention}
 
 -- a class's name, where there is such a class
@@ -52,7 +52,12 @@ module _ (P : Program) where
   abbrev pub class_number : ℕ → Option ℕ
   class_number n = first_at (λ (x : Class). eqb x.name.0 n) 0 P.classes
 
-  -- by the class that is made
+  -- by the class whose constructor is called by another one
+  abbrev pub builders : ℕ → Option ℕ → List Candidate
+  builders k None = []
+  builders k (Some c) = flat_map (maker c k) P.methods
+
+  -- by the class of which an object is made
   abbrev pub makers : ℕ → Option ℕ → List Candidate
   makers k None = []
   makers k (Some c) = bare_class (class_info P c) ++ flat_map (maker c k) P.methods
@@ -61,6 +66,7 @@ module _ (P : Program) where
   abbrev pub candidates : ℕ → ℕ → Kind → List Candidate
   candidates n k Calls = flat_map (called n k) P.methods
   candidates n k Makes = makers k (class_number n)
+  candidates n k Builds = builders k (class_number n)
   candidates n k Reads = flat_map (read n) P.fields
 
 -- how many arguments there are

@@ -235,6 +235,21 @@ fn put_made(
     }
 }
 
+/// Puts what a call of that class's constructor by another one may mean.
+fn put_built(
+    program: &Program,
+    class: Option<usize>,
+    arguments: usize,
+    found: &mut Seq<Candidate>,
+) -> Result<(), AllocError>
+    ensures { OnOk result (found.new ≡ found.old ++ spec.builders program.now arguments class) }
+{
+    match class {
+        None => Ok(()),
+        Some(c) => put_makers(program, c, arguments, found),
+    }
+}
+
 /// What has the name, by what it is named as.
 fn put_candidates(
     program: &Program,
@@ -250,6 +265,10 @@ fn put_candidates(
         Kind::Makes => {
             let class = class_number(program.classes.as_slice(), mention.name);
             put_made(program, class, mention.arguments, found)
+        }
+        Kind::Builds => {
+            let class = class_number(program.classes.as_slice(), mention.name);
+            put_built(program, class, mention.arguments, found)
         }
         Kind::Reads => put_fields(program, mention.name, found),
     }

@@ -8,11 +8,12 @@ use jn_scopes::forms::count;
 use jn_trees::{Expr, Identifier};
 use std::alloc::AllocError;
 
-/// How a member is named: a call of a method, a construction, or a field after a dot.
+/// How a member is named: a call of a method, an object that is made, a call of another constructor, or a field after a dot.
 #[derive(Clone, Copy)]
 pub enum Kind {
     Calls,
     Makes,
+    Builds,
     Reads,
 }
 

@@ -66,7 +66,7 @@ fn super_mention(
 {
     match parent {
         None => Ok(()),
-        Some(class) => put_mention(found, Kind::Makes, class, span, arguments),
+        Some(class) => put_mention(found, Kind::Builds, class, span, arguments),
     }
 }
 
@@ -137,7 +137,7 @@ fn statement(tree: &Stmt, within: Within, found: &mut Seq<Mention>) -> Result<()
         }
         Stmt::ThisCall { arguments, span } => {
             let listed: &[Expr] = arguments;
-            put_mention(found, Kind::Makes, within.own, *span, count(listed))?;
+            put_mention(found, Kind::Builds, within.own, *span, count(listed))?;
             all(listed, found)
         }
         Stmt::SuperCall { arguments, span } => {
