@@ -12,7 +12,6 @@ exports.activate = () => {
     { command: settings.get("command"), args: settings.get("arguments") },
     {
       documentSelector: [{ scheme: "file", language: "java" }],
-      synchronize: { fileEvents: workspace.createFileSystemWatcher("**/*.java") },
       initializationOptions: settings.get("options"),
     },
   );
