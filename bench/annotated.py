@@ -7,10 +7,11 @@ Usage: bench/annotated.py ANNOTATOR CHECKER
   CHECKER    a built nullcheck: crates/nullcheck/out/nullcheck
   DIVISOR    divides the sizes of bench/whole.sh's shapes (1)
 
-Each file is taken alone, under both choices of members that are inferred, without `--imports` and with. Where it has annotated texts,
-its diff is applied by `git apply` to one copy and `--write` writes another: both have the same bytes; the checker ends with the same
-status on it as on the file, with rows of the same codes at the same tokens, and at the same lines but for those that were added before;
-and nothing would change a second time. Files that are refused stay refused. Prints each file that does otherwise, and how many did what; ends with 1 where one did otherwise.
+Each file is taken alone, under both choices of members that are inferred, without options, with `--imports` and with `--terse`. Where it
+has annotated texts, its diff is applied by `git apply` to one copy and `--write` writes another: both have the same bytes; the checker ends
+with the same status on it as on the file, with rows of the same codes at the same tokens, and at the same lines but for those that were added
+before; and nothing would change a second time. Where positions are left without words the status is 1, and all else is so. Files that are
+refused stay refused. Prints each file that does otherwise, and how many did what; ends with 1 where one did otherwise.
 
 Times: for each shape a check with four workers and its annotating, the best of three, and their ratio, at the whole size and at half.
 """
@@ -48,38 +49,47 @@ def rows(text, report, added=0):
     return found
 
 
-def differs(annotator, checker, folder, name, infer, imports):
+def parted(shown):
+    """A diff, and after it what is said of the positions that are left without words."""
+    first = re.search(rb"^[^\n]*: NO-SPELLING\n", shown, re.M)
+    return (shown[:first.start()], shown[first.start():]) if first else (shown, b"")
+
+
+def differs(annotator, checker, folder, name, infer, options):
     """What the annotating of a file did, and what is wrong with it."""
     choice = ["--infer", infer]
-    annotating = [annotator, *choice, *imports]
+    annotating = [annotator, *choice, *options]
     old = pathlib.Path(folder, name).read_bytes()
     before = run([checker, *choice, name], folder)
     shown = run([*annotating, name], folder)
     if shown.returncode == 2:
         return "refused", None if before.returncode == 2 and before.stdout == shown.stdout else "refused by one alone"
-    if shown.returncode == 1:
+    diff, left = parted(shown.stdout)
+    if shown.returncode == 1 and not left:
         return "without texts", None if before.returncode in (0, 1) else "its check ends otherwise"
-    if shown.returncode != 0:
+    if shown.returncode != (1 if left else 0):
         return "faults", f"ended with {shown.returncode}"
     with tempfile.TemporaryDirectory() as other:
         shutil.copy(pathlib.Path(folder, name), other)
-        if shown.stdout:
-            patch = subprocess.run(["git", "apply", "--unsafe-paths", "-"], cwd=other, input=shown.stdout, stderr=subprocess.PIPE, check=False)
+        if diff:
+            patch = subprocess.run(["git", "apply", "--unsafe-paths", "-"], cwd=other, input=diff, stderr=subprocess.PIPE, check=False)
             if patch.returncode != 0:
                 return "annotated", f"git apply: {patch.stderr[:200]!r}"
         applied = pathlib.Path(other, name).read_bytes()
         pathlib.Path(other, name).write_bytes(old)
         wrote = run([*annotating, "--write", name], other)
         new = pathlib.Path(other, name).read_bytes()
-        if wrote.returncode != 0 or new != applied:
+        if wrote.returncode != shown.returncode or new != applied:
             return "annotated", "--write and the diff differ"
         after = run([checker, *choice, name], other)
-        again = run([*annotating, "--check", name], other)
+        again = run([*annotating, name], other)
     added = len(re.findall(rb"\r\n|\r|\n", new)) - len(re.findall(rb"\r\n|\r|\n", old))
     if after.returncode != before.returncode or rows(old, before.stdout) != rows(new, after.stdout, added):
         return "annotated", f"rows differ: {before.stdout[:200]!r} {after.stdout[:200]!r}"
-    if again.returncode != 0:
+    if parted(again.stdout)[0] or again.returncode != shown.returncode:
         return "annotated", "something would change again"
+    if left:
+        return "annotated in part", None
     return "annotated" if new != old else "unchanged", None
 
 
@@ -89,12 +99,12 @@ def try_all(annotator, checker):
     with tempfile.TemporaryDirectory() as folder:
         for path in sorted((ROOT / "crates/nullcheck_cases/data").glob("*.java")) + sorted((ROOT / "examples").glob("*.java")):
             shutil.copy(path, folder)
-            for infer, imports in itertools.product(("private", "package"), ([], ["--imports"])):
-                what, fault = differs(annotator, checker, folder, path.name, infer, imports)
+            for infer, options in itertools.product(("private", "package"), ([], ["--imports"], ["--terse"])):
+                what, fault = differs(annotator, checker, folder, path.name, infer, options)
                 did[what] += 1
                 if fault:
                     wrong += 1
-                    print(f"{path.name}, {' '.join([infer, *imports])}: {fault}")
+                    print(f"{path.name}, {' '.join([infer, *options])}: {fault}")
     print(", ".join(f"{count} {what}" for what, count in sorted(did.items())) + f"; {wrong} otherwise")
     return 1 if wrong or not did["annotated"] else 0
 
