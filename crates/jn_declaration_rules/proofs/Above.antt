@@ -6,7 +6,7 @@ use Rattle.jn_points.specs.declared.program.Method.{Method}
 use Rattle.jn_points.specs.declared.program.Program.{Program}
 use Rattle.jn_points.specs.Lookup.{method_at}
 use Rattle.jn_points.specs.Members.{below, class_pair, class_pairs, interface_pairs, in_interface, is_named, is_pair, pairs_of, some_of, sub, walk}
-use Rattle.jn_index.specs.Numbers.{contains, list_at, passes}
+use Rattle.jn_member_tables.specs.Numbers.{contains, list_at, passes}
 use Rattle.jn_index.specs.Index.{Lists, IsIndex}
 use Rattle.jn_index.specs.Users.{AreUsers, has_method}
 use Rattle.jn_index.specs.Busy.{is_busy}

@@ -5,7 +5,7 @@ use Rattle.jn_points.specs.declared.program.Method.{Method}
 use Rattle.jn_points.specs.declared.program.Program.{Program}
 use Rattle.jn_points.specs.Lookup.{method_at}
 use Rattle.jn_points.specs.Members.{some_of, is_pair, sub}
-use Rattle.jn_index.specs.Numbers.{list_at, places_of, passes}
+use Rattle.jn_member_tables.specs.Numbers.{list_at, places_of, passes}
 use Rattle.jn_index.specs.Index.{names, Lists, IsIndex}
 use Rattle.jn_index.proofs.Named.{other_name}
 use Rattle.jn_declaration_rules.specs.Rows.{some_at, agrees, overrides_badly, over_static, hides_well, hides_badly}

@@ -6,11 +6,11 @@ use Rattle.jn_points.specs.declared.program.Field.{Field}
 use Rattle.jn_points.specs.declared.program.Program.{Program}
 use Rattle.jn_points.specs.Lookup.{field_info}
 use Rattle.jn_points.specs.Members.{some_of, first_or, first_some, walk, reaches}
-use Rattle.jn_index.specs.declared.tables.Entry.{Entry}
-use Rattle.jn_index.specs.Numbers.{list_at, places_of, contains}
+use Rattle.jn_member_tables.specs.declared.tables.Entry.{Entry}
+use Rattle.jn_member_tables.specs.Numbers.{list_at, places_of, contains}
 use Rattle.jn_index.specs.Index.{Lists, IsIndex, field_owners}
 use Rattle.jn_index.specs.Entries.{IsListed}
-use Rattle.jn_index.specs.Tables.{Trees, find_in, first_entry, entries_at, offers, SmallKeys, IsTable}
+use Rattle.jn_member_tables.specs.Tables.{Trees, find_in, first_entry, entries_at, offers, SmallKeys, IsTable}
 use Rattle.jn_index.proofs.Offers.{past_list, small_append}
 use Rattle.jn_declaration_rules.specs.Listed.{there}
 use Rattle.jn_declaration_rules.specs.Hidden.{declares, owner_entry, owner_entries, AreOwners}

@@ -8,8 +8,8 @@ use Rattle.jn_points.specs.declared.program.Field.{Field}
 use Rattle.jn_points.specs.declared.program.Program.{Program}
 use Rattle.jn_points.specs.Lookup.{class_info, supers_of}
 use Rattle.jn_points.specs.Members.{some_of, first_or, reaches, sub}
-use Rattle.jn_index.specs.Tables.{Trees, find_in}
-use Rattle.jn_index.proofs.Ready.{class_inside, some_super}
+use Rattle.jn_member_tables.specs.Tables.{Trees, find_in}
+use Rattle.jn_member_tables.proofs.Ready.{class_inside, some_super}
 use Rattle.jn_declaration_rules.specs.Rows.{is_hiding}
 use Rattle.jn_declaration_rules.specs.Hidden.{declares, AreOwners, Untold, object, circle, found_above}
 use Rattle.jn_declaration_rules.proofs.Tests.{and_true, and_both, or_true, true_or_not, not_true, not_both}

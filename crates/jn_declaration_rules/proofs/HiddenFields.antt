@@ -4,7 +4,7 @@ use Rattle.std.specs.Prelude.{slice_get}
 use Rattle.jn_points.specs.declared.program.Field.{Field}
 use Rattle.jn_points.specs.declared.program.Program.{Program}
 use Rattle.jn_points.specs.Members.{some_of, sub}
-use Rattle.jn_index.specs.Numbers.{list_at, places_of}
+use Rattle.jn_member_tables.specs.Numbers.{list_at, places_of}
 use Rattle.jn_declaration_rules.specs.Listed.{there}
 use Rattle.jn_declaration_rules.specs.Rows.{some_at, is_hiding}
 use Rattle.jn_declaration_rules.proofs.Listed.{some_listed, eqb_other}

@@ -5,7 +5,7 @@ use Rattle.std.proofs.lemmas.Bool.{ltb-true}
 use Rattle.jn_points.specs.declared.program.Field.{Field}
 use Rattle.jn_points.specs.declared.program.Method.{Method}
 use Rattle.jn_points.specs.Members.{some_of}
-use Rattle.jn_index.specs.Numbers.{list_at, places_of}
+use Rattle.jn_member_tables.specs.Numbers.{list_at, places_of}
 use Rattle.jn_index.specs.Index.{names, owners}
 use Rattle.jn_declaration_rules.specs.Listed.{there, is_earlier}
 use Rattle.jn_declaration_rules.specs.Rows.{some_at, earlier, same_method, same_field}

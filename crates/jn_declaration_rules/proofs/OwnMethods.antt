@@ -6,7 +6,7 @@ use Rattle.jn_points.specs.declared.program.Method.{Method}
 use Rattle.jn_points.specs.declared.program.Program.{Program}
 use Rattle.jn_points.specs.Lookup.{method_at}
 use Rattle.jn_points.specs.Members.{declared_method, first_or, first_some, is_named, is_number, method_of, some_of, walk}
-use Rattle.jn_index.specs.Numbers.{contains, list_at, places_of, passes}
+use Rattle.jn_member_tables.specs.Numbers.{contains, list_at, places_of, passes}
 use Rattle.jn_index.specs.Index.{owners, Lists, IsIndex}
 use Rattle.jn_index.proofs.Busied.{busy_abstract}
 use Rattle.jn_index.proofs.Having.{contained_some, same_truth, some_contained}

@@ -5,7 +5,7 @@ use Rattle.jn_points.specs.declared.program.Method.{Method}
 use Rattle.jn_points.specs.declared.program.Program.{Program}
 use Rattle.jn_points.specs.Lookup.{method_at}
 use Rattle.jn_points.specs.Members.{some_of, is_pair, is_named, sub}
-use Rattle.jn_index.specs.Numbers.{list_at, passes}
+use Rattle.jn_member_tables.specs.Numbers.{list_at, passes}
 use Rattle.jn_index.specs.Index.{Lists, IsIndex}
 use Rattle.jn_index.specs.Busy.{is_other}
 use Rattle.jn_index.specs.Users.{has_partner}

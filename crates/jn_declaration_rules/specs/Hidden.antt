@@ -6,8 +6,8 @@ use Rattle.jn_points.specs.declared.program.Field.{Field}
 use Rattle.jn_points.specs.declared.program.Program.{Program}
 use Rattle.jn_points.specs.Lookup.{field_info}
 use Rattle.jn_points.specs.Members.{some_of, first_or, reaches}
-use Rattle.jn_index.specs.declared.tables.Entry.{Entry}
-use Rattle.jn_index.specs.Tables.{Trees, find_in}
+use Rattle.jn_member_tables.specs.declared.tables.Entry.{Entry}
+use Rattle.jn_member_tables.specs.Tables.{Trees, find_in}
 
 -- class d declares a field of the name
 abbrev pub declares : Program → ℕ → ℕ → Bool

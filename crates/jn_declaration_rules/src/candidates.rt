@@ -1,6 +1,6 @@
 //! The classes whose methods a method can override or hide (JLS 8.4.8).
 ghost use Rattle.std.specs.Prelude.{◌≡◌, ◌++◌, flat_map, IfOk, OnOk};
-ghost use Rattle.jn_index.specs.Numbers.{list_at};
+ghost use Rattle.jn_member_tables.specs.Numbers.{list_at};
 ghost use Rattle.jn_declaration_rules.specs.Listed.{candidates};
 
 use jn_base::{ClassNo, Seq};

@@ -4,7 +4,7 @@ ghost use Rattle.jn_base.specs.declared.code.Code.TheVariants.{T5};
 ghost use Rattle.jn_points.specs.declared.program.Method.{Method as MethodOf};
 ghost use Rattle.jn_points.specs.Lookup.{method_at};
 ghost use Rattle.jn_points.specs.Members as members;
-ghost use Rattle.jn_index.specs.Numbers.{list_at, passes};
+ghost use Rattle.jn_member_tables.specs.Numbers.{list_at, passes};
 ghost use Rattle.jn_index.specs.Index.{IsIndex};
 ghost use Rattle.jn_index.specs.Users.{AreUsers};
 ghost use Rattle.jn_declaration_rules.specs.Rows as spec;

@@ -5,15 +5,15 @@ ghost use Rattle.jn_points.specs.Members.{some_of};
 ghost use Rattle.jn_points.specs.declared.program.Field.{Field as FieldOf};
 ghost use Rattle.jn_points.specs.declared.program.Method.{Method as MethodOf};
 ghost use Rattle.jn_index.specs.Index.{names, owners};
-ghost use Rattle.jn_index.specs.Numbers.{places_of};
-ghost use Rattle.jn_index.specs.Numbers as numbers;
+ghost use Rattle.jn_member_tables.specs.Numbers.{places_of};
+ghost use Rattle.jn_member_tables.specs.Numbers as numbers;
 ghost use Rattle.jn_declaration_rules.specs.Listed.{is_earlier};
 ghost use Rattle.jn_declaration_rules.specs.Rows as spec;
 
 use crate::rows::push_if;
 use jn_base::{Code, Row, Seq};
 use jn_index::index::{list_at, owners};
-use jn_index::lists::lists_by;
+use jn_member_tables::lists::lists_by;
 use jn_points::{Field, Method, Program};
 use std::alloc::{AllocError, Global};
 

@@ -5,14 +5,14 @@ ghost use Rattle.jn_points.specs.Lookup.{class_info, field_info};
 ghost use Rattle.jn_points.specs.Regular.{RegularClasses};
 ghost use Rattle.jn_index.specs.Entries.{IsListed};
 ghost use Rattle.jn_index.specs.Index.{IsIndex};
-ghost use Rattle.jn_index.specs.Numbers as numbers;
+ghost use Rattle.jn_member_tables.specs.Numbers as numbers;
 ghost use Rattle.jn_declaration_rules.specs.Hidden as spec;
 ghost use Rattle.jn_declaration_rules.specs.Rows.{is_hiding};
 
 use jn_base::{ClassNo, Seq};
 use jn_index::index::Index as Members;
 use jn_index::order::find_order;
-use jn_index::tables::{Entry, Tables, find_tables};
+use jn_member_tables::tables::{Entry, Tables, find_tables};
 use jn_points::lookup::field_at;
 use jn_points::{Class, Field, Program};
 use std::alloc::{AllocError, Global};

@@ -6,13 +6,13 @@ use Rattle.jn_points.specs.declared.program.Method.{Method}
 use Rattle.jn_points.specs.declared.program.Program.{Program}
 use Rattle.jn_points.specs.Lookup.{method_at}
 use Rattle.jn_points.specs.Members.{first_some, is_named, some_of, walk}
-use Rattle.jn_index.specs.Along.{IsWalk}
+use Rattle.jn_member_tables.specs.Along.{IsWalk}
 use Rattle.jn_index.specs.Busy.{has_other, is_busy, is_busy_method, is_other}
 use Rattle.jn_index.specs.Entries.{field_key, is_field_named, is_named_at, method_key, open_field, open_method}
 use Rattle.jn_index.specs.Founds.{AreClasses, AreFields, AreMethods}
 use Rattle.jn_index.specs.Index.{IsIndex, Lists, class_names, field_names, field_owners, is_constructor, names, owners}
-use Rattle.jn_index.specs.Numbers.{contains, first_in, list_at, passes, places_of}
-use Rattle.jn_index.specs.Tables.{Trees}
+use Rattle.jn_member_tables.specs.Numbers.{contains, first_in, list_at, passes, places_of}
+use Rattle.jn_member_tables.specs.Tables.{Trees}
 use Rattle.jn_places_law.specs.Bare.{bare_class, bare_field, bare_method}
 use Rattle.jn_heads_law.specs.Heads.{HeadsAlike}
 use Rattle.jn_heads_law.proofs.Heads.{field_same, first_same, items_same, long_same, method_same, reaches_same, walk_by_same, walk_same}

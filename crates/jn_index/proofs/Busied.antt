@@ -6,11 +6,11 @@ use Rattle.jn_points.specs.declared.program.Method.{Method}
 use Rattle.jn_points.specs.declared.program.Program.{Program}
 use Rattle.jn_points.specs.Lookup.{method_at}
 use Rattle.jn_points.specs.Members.{some_of, is_named}
-use Rattle.jn_index.specs.Numbers.{list_at, places_of, contains, passes}
+use Rattle.jn_member_tables.specs.Numbers.{list_at, places_of, contains, passes}
 use Rattle.jn_index.specs.Busy.{is_other, has_other, is_busy_method, is_busy}
 use Rattle.jn_index.specs.Index.{Lists, IsIndex}
-use Rattle.jn_index.proofs.Found.{true_or_not}
-use Rattle.jn_index.proofs.Ready.{and_true}
+use Rattle.jn_member_tables.proofs.Found.{true_or_not}
+use Rattle.jn_member_tables.proofs.Ready.{and_true}
 use Rattle.jn_index.proofs.Having.{and_both, contained_some}
 
 -- an item stands in the list of its key

@@ -8,11 +8,11 @@ use Rattle.jn_points.specs.declared.program.Method.{Method}
 use Rattle.jn_points.specs.declared.program.Program.{Program}
 use Rattle.jn_points.specs.Lookup.{field_info, method_at}
 use Rattle.jn_points.specs.Members.{first_or, is_named}
-use Rattle.jn_index.specs.declared.tables.Entry.{Entry}
-use Rattle.jn_index.specs.Numbers.{list_at, first_in, passes}
-use Rattle.jn_index.specs.Tables.{first_entry, entries_at, SmallKeys}
+use Rattle.jn_member_tables.specs.declared.tables.Entry.{Entry}
+use Rattle.jn_member_tables.specs.Numbers.{list_at, first_in, passes}
+use Rattle.jn_member_tables.specs.Tables.{first_entry, entries_at, SmallKeys}
 use Rattle.jn_index.specs.Entries.{entry_if, is_open, is_open_field, is_named_at, is_field_named, method_key, field_key, method_entry, field_entry, method_entries, field_entries, IsListed}
-use Rattle.jn_index.proofs.Found.{true_or_not}
+use Rattle.jn_member_tables.proofs.Found.{true_or_not}
 
 -- the entries of one member more
 pub entries_more : (f : ℕ → List Entry) (ks : List ℕ) (i : ℕ) (old new : List Entry) → i < length ks → new ≡ old ++ f (get_or ks i 0) → old ++ flat_map f (drop i ks) ≡ flat_map f ks → new ++ flat_map f (drop (i + 1) ks) ≡ flat_map f ks

@@ -7,16 +7,16 @@ use Rattle.jn_points.specs.declared.program.Method.{Method}
 use Rattle.jn_points.specs.declared.program.Program.{Program}
 use Rattle.jn_points.specs.Lookup.{field_info, method_at}
 use Rattle.jn_points.specs.Members.{first_or, first_some, first_at, is_named, walk, reaches}
-use Rattle.jn_index.specs.declared.tables.Entry.{Entry}
-use Rattle.jn_index.specs.Numbers.{list_at, places_of, contains, first_in, passes}
-use Rattle.jn_index.specs.Along.{is_some}
-use Rattle.jn_index.specs.Tables.{Trees, find_in, first_entry, entries_at, offers, SmallKeys, IsTable}
+use Rattle.jn_member_tables.specs.declared.tables.Entry.{Entry}
+use Rattle.jn_member_tables.specs.Numbers.{list_at, places_of, contains, first_in, passes}
+use Rattle.jn_member_tables.specs.Along.{is_some}
+use Rattle.jn_member_tables.specs.Tables.{Trees, find_in, first_entry, entries_at, offers, SmallKeys, IsTable}
 use Rattle.jn_index.specs.Entries.{entry_if, is_open, is_open_field, open_method, open_field, method_key, field_key, method_entry, field_entry, method_entries, field_entries, class_entries, IsListed}
 use Rattle.jn_index.specs.Busy.{is_busy}
 use Rattle.jn_index.specs.Founds.{AreClasses, AreMethods, AreFields, AreBusy}
 use Rattle.jn_index.specs.Index.{owners, field_owners}
-use Rattle.jn_index.proofs.Found.{true_or_not, or_true}
-use Rattle.jn_index.proofs.Ready.{hit, contains_found, class_inside}
+use Rattle.jn_member_tables.proofs.Found.{true_or_not, or_true}
+use Rattle.jn_member_tables.proofs.Ready.{hit, contains_found, class_inside}
 use Rattle.jn_index.proofs.Offered.{first_passes, entries_found}
 use Rattle.jn_index.proofs.Declared.{first_of}
 

@@ -7,9 +7,9 @@ use Rattle.jn_points.specs.declared.program.Method.{Method}
 use Rattle.jn_points.specs.declared.program.Program.{Program}
 use Rattle.jn_points.specs.Lookup.{parent_of, supers_of, class_info}
 use Rattle.jn_points.specs.Members.{some_of, first_some, first_at, is_class, is_named, reaches, interfaces, walk, walk_parent, walk_by}
-use Rattle.jn_index.specs.Numbers.{list_at, places_of, contains, first_in, passes}
-use Rattle.jn_index.specs.Along.{IsWalk}
-use Rattle.jn_index.specs.Tables.{find_in}
+use Rattle.jn_member_tables.specs.Numbers.{list_at, places_of, contains, first_in, passes}
+use Rattle.jn_member_tables.specs.Along.{IsWalk}
+use Rattle.jn_member_tables.specs.Tables.{find_in}
 use Rattle.jn_index.specs.Entries.{open_method, open_field, method_key, field_key}
 use Rattle.jn_index.specs.Busy.{is_busy}
 use Rattle.jn_index.specs.Index.{owners, field_owners, names, field_names, class_names, Lists, IsIndex}

@@ -4,7 +4,7 @@ use Rattle.jn_points.specs.declared.program.Method.{Method}
 use Rattle.jn_points.specs.declared.program.Program.{Program}
 use Rattle.jn_points.specs.Lookup.{method_at}
 use Rattle.jn_points.specs.Members.{some_of, is_named}
-use Rattle.jn_index.specs.Numbers.{list_at, passes}
+use Rattle.jn_member_tables.specs.Numbers.{list_at, passes}
 
 -- k is another method of the method's name and arity
 abbrev pub is_other : Program → ℕ → Method → ℕ → Bool

@@ -5,9 +5,9 @@ use Rattle.jn_points.specs.declared.program.Method.{Method}
 use Rattle.jn_points.specs.declared.program.Program.{Program}
 use Rattle.jn_points.specs.Lookup.{field_info, method_at}
 use Rattle.jn_points.specs.Members.{first_at, is_named}
-use Rattle.jn_index.specs.declared.tables.Entry.{Entry}
-use Rattle.jn_index.specs.Numbers.{list_at, first_in, passes}
-use Rattle.jn_index.specs.Tables.{entries_at}
+use Rattle.jn_member_tables.specs.declared.tables.Entry.{Entry}
+use Rattle.jn_member_tables.specs.Numbers.{list_at, first_in, passes}
+use Rattle.jn_member_tables.specs.Tables.{entries_at}
 
 abbrev pub entry_if : Option ℕ → ℕ → List Entry
 entry_if None value = []

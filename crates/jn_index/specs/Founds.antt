@@ -2,9 +2,9 @@
 use Rattle.std.specs.Prelude.{ℕ, ◌≡◌, ◌<◌, true, List, length, Some}
 use Rattle.jn_points.specs.declared.program.Program.{Program}
 use Rattle.jn_points.specs.Members.{first_some, walk}
-use Rattle.jn_index.specs.Numbers.{contains}
-use Rattle.jn_index.specs.Along.{IsWalk, is_some}
-use Rattle.jn_index.specs.Tables.{Trees, find_in}
+use Rattle.jn_member_tables.specs.Numbers.{contains}
+use Rattle.jn_member_tables.specs.Along.{IsWalk, is_some}
+use Rattle.jn_member_tables.specs.Tables.{Trees, find_in}
 use Rattle.jn_index.specs.Entries.{open_method, open_field, method_key, field_key}
 use Rattle.jn_index.specs.Busy.{is_busy}
 

@@ -1,14 +1,14 @@
 //! Tables of what stands along the walks of the classes.
 ghost use Rattle.std.specs.Prelude.{◌≡◌, ◌<◌, ◌^◌, ℕ, length, Some, true, MatchOption, IfOk, IfSome};
 ghost use Rattle.jn_points.specs.Regular.{RegularClasses};
-ghost use Rattle.jn_index.specs.Numbers.{list_at, places_of, contains};
+ghost use Rattle.jn_member_tables.specs.Numbers.{list_at, places_of, contains};
 ghost use Rattle.jn_index.specs.Index.{owners, field_owners};
-ghost use Rattle.jn_index.specs.Tables.{find_in};
+ghost use Rattle.jn_member_tables.specs.Tables.{find_in};
 ghost use Rattle.jn_index.specs.Founds as spec;
 
 use crate::entries::{all_busy, all_classes, all_fields, all_methods};
-use crate::tables::{Tables, find_tables};
 use jn_base::Seq;
+use jn_member_tables::tables::{Tables, find_tables};
 use jn_points::Program;
 use std::alloc::{AllocError, Global};
 

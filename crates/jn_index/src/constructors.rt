@@ -1,7 +1,7 @@
 //! The constructors among the methods of each class.
 ghost use Rattle.std.specs.Prelude.{◌≡◌, ℕ, filter, IfOk};
 ghost use Rattle.jn_index.specs.Index as spec;
-ghost use Rattle.jn_index.specs.Numbers.{list_at};
+ghost use Rattle.jn_member_tables.specs.Numbers.{list_at};
 
 use jn_base::Seq;
 use jn_points::Program;

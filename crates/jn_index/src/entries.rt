@@ -2,14 +2,14 @@
 //! and arity.
 ghost use Rattle.std.specs.Prelude.{◌≡◌, ◌<◌, ◌^◌, ◌++◌, Some, None, true, length, IfOk, OnOk};
 ghost use Rattle.jn_points.specs.Lookup.{field_info, method_at};
-ghost use Rattle.jn_index.specs.Numbers.{list_at, first_in};
+ghost use Rattle.jn_member_tables.specs.Numbers.{list_at, first_in};
 ghost use Rattle.jn_index.specs.Busy as busy;
 ghost use Rattle.jn_index.specs.Entries as spec;
 
 use crate::busy::is_busy;
 use crate::index::list_at;
-use crate::tables::Entry;
 use jn_base::{NameNo, Seq};
+use jn_member_tables::tables::Entry;
 use jn_points::lookup::{field_at, method_at};
 use jn_points::members::is_named;
 use jn_points::{Field, Method, Program};

@@ -1,7 +1,7 @@
 //! Fields by the index.
 ghost use Rattle.std.specs.Prelude.{◌≡◌, ◌<◌, ◌≤◌, length, MatchOption, None, Some};
 ghost use Rattle.jn_points.specs.Members as spec;
-ghost use Rattle.jn_index.specs.Numbers.{first_in};
+ghost use Rattle.jn_member_tables.specs.Numbers.{first_in};
 ghost use Rattle.jn_index.specs.Index as index;
 ghost use Rattle.jn_index.specs.Index.{IsIndex};
 

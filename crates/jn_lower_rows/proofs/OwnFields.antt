@@ -6,7 +6,7 @@ use Rattle.jn_points.specs.declared.program.Program.{Program}
 use Rattle.jn_points.specs.Lookup.{class_of, ctor_of, field_info, owner_of, ref_field}
 use Rattle.jn_points.specs.Members.{below}
 use Rattle.jn_env.specs.Keys.{is_own}
-use Rattle.jn_index.specs.Numbers.{list_at}
+use Rattle.jn_member_tables.specs.Numbers.{list_at}
 use Rattle.jn_index.specs.Index.{Lists, IsIndex}
 use Rattle.jn_index.proofs.Named.{own_kept}
 

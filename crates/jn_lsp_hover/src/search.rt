@@ -10,7 +10,7 @@ ghost use Rattle.jn_lsp_hover.specs.Spots as spec;
 use crate::sought::{Sought, less, passes};
 use crate::spot::Spot;
 use jn_base::{RegNo, Span};
-use jn_points::{Operand, Point, PointKind};
+use jn_points::{Operand, Point, PointKind, writes};
 
 /// How many bytes the text has.
 fn width(spot: Spot) -> u32
@@ -225,40 +225,6 @@ fn over_operands(
 
 // ---- what a point makes
 
-/// The register into which a point puts a value.
-fn made_in(kind: &PointKind) -> Option<RegNo>
-    ensures { MatchOption result (writes kind.now ≡ None) (λ r. writes kind.now ≡ Some r.0) }
-{
-    match kind {
-        PointKind::Const { dst, .. } => Some(*dst),
-        PointKind::Move { dst, .. } => Some(*dst),
-        PointKind::Unary { dst, .. } => Some(*dst),
-        PointKind::Binary { dst, .. } => Some(*dst),
-        PointKind::Concat { dst, .. } => Some(*dst),
-        PointKind::SameRef { dst, .. } => Some(*dst),
-        PointKind::FieldRead { dst, .. } => Some(*dst),
-        PointKind::StaticRead { dst, .. } => Some(*dst),
-        PointKind::ElemRead { dst, .. } => Some(*dst),
-        PointKind::ArrayLen { dst, .. } => Some(*dst),
-        PointKind::NewArray { dst, .. } => Some(*dst),
-        PointKind::ArrayOf { dst, .. } => Some(*dst),
-        PointKind::New { dst, .. } => Some(*dst),
-        PointKind::Call { dst, .. } => *dst,
-        PointKind::StrOp { dst, .. } => Some(*dst),
-        PointKind::Cast { dst, .. } => Some(*dst),
-        PointKind::FieldWrite { .. } => None,
-        PointKind::StaticWrite { .. } => None,
-        PointKind::ElemWrite { .. } => None,
-        PointKind::CtorCall { .. } => None,
-        PointKind::Print { .. } => None,
-        PointKind::TestInst { .. } => None,
-        PointKind::TestNull { .. } => None,
-        PointKind::Branch { .. } => None,
-        PointKind::Goto { .. } => None,
-        PointKind::Return { .. } => None,
-    }
-}
-
 fn over_made(
     sought: &Sought,
     best: Option<Spot>,
@@ -284,7 +250,7 @@ fn over_result(sought: &Sought, best: Option<Spot>, place: Place, point: &Point)
         ≡ found.searched sought.now best
         (spec.made place.body place.point point.now.span (writes point.now.kind)) }
 {
-    match made_in(&point.kind) {
+    match writes(&point.kind) {
         None => best,
         Some(reg) => over_made(sought, best, place, point.span, reg),
     }

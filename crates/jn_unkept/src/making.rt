@@ -1,44 +1,9 @@
 //! What makes the values of registers.
 ghost use Rattle.std.specs.Prelude.{◌≡◌, ◌<◌, IfSome, MatchOption, None, Some};
-ghost use Rattle.jn_points.specs.Shaped.{writes};
 ghost use Rattle.jn_unkept.specs.Making as spec;
 
 use jn_base::RegNo;
-use jn_points::{Body, Point, PointKind};
-
-/// The register that a point writes.
-fn writes(kind: &PointKind) -> Option<RegNo>
-    ensures { MatchOption result (writes kind.now ≡ None) (λ r. writes kind.now ≡ Some r.0) }
-{
-    match kind {
-        PointKind::Const { dst, .. } => Some(*dst),
-        PointKind::Move { dst, .. } => Some(*dst),
-        PointKind::Unary { dst, .. } => Some(*dst),
-        PointKind::Binary { dst, .. } => Some(*dst),
-        PointKind::Concat { dst, .. } => Some(*dst),
-        PointKind::SameRef { dst, .. } => Some(*dst),
-        PointKind::FieldRead { dst, .. } => Some(*dst),
-        PointKind::StaticRead { dst, .. } => Some(*dst),
-        PointKind::ElemRead { dst, .. } => Some(*dst),
-        PointKind::ArrayLen { dst, .. } => Some(*dst),
-        PointKind::NewArray { dst, .. } => Some(*dst),
-        PointKind::ArrayOf { dst, .. } => Some(*dst),
-        PointKind::New { dst, .. } => Some(*dst),
-        PointKind::Call { dst, .. } => *dst,
-        PointKind::StrOp { dst, .. } => Some(*dst),
-        PointKind::Cast { dst, .. } => Some(*dst),
-        PointKind::FieldWrite { .. } => None,
-        PointKind::StaticWrite { .. } => None,
-        PointKind::ElemWrite { .. } => None,
-        PointKind::CtorCall { .. } => None,
-        PointKind::Print { .. } => None,
-        PointKind::TestInst { .. } => None,
-        PointKind::TestNull { .. } => None,
-        PointKind::Branch { .. } => None,
-        PointKind::Goto { .. } => None,
-        PointKind::Return { .. } => None,
-    }
-}
+use jn_points::{Body, Point, writes};
 
 /// The point of a number, where the body has it.
 pub(crate) fn point_of(body: &Body, point: usize) -> Option<&Point>

@@ -1,6 +1,6 @@
 use Rattle.std.proofs.Common.{◌≡◌, ◌++◌, drop}
 use Rattle.std.specs.Prelude.{flat_map}
-use Rattle.jn_index.specs.Numbers.{list_at}
+use Rattle.jn_member_tables.specs.Numbers.{list_at}
 use Rattle.jn_declaration_rules.proofs.candidates.push_walks.Given as goal
 
 abbrev pub invariant-loop-class : goal.invariant-loop-class

@@ -2,7 +2,7 @@ use Rattle.std.proofs.Common.{◌≡◌, ◌&&◌, not, drop}
 use Rattle.jn_points.specs.declared.program.Method.{Method}
 use Rattle.jn_points.specs.Lookup.{method_at}
 use Rattle.jn_points.specs.Members as members
-use Rattle.jn_index.specs.Numbers.{passes}
+use Rattle.jn_member_tables.specs.Numbers.{passes}
 use Rattle.jn_declaration_rules.specs.Rows as spec
 use Rattle.jn_declaration_rules.proofs.clashes.hides_own.Given as goal
 

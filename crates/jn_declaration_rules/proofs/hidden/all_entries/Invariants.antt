@@ -1,5 +1,5 @@
 use Rattle.jn_index.specs.Entries.{IsListed}
-use Rattle.jn_index.specs.Numbers.{list_at}
+use Rattle.jn_member_tables.specs.Numbers.{list_at}
 use Rattle.jn_declaration_rules.specs.Hidden as spec
 use Rattle.jn_declaration_rules.proofs.hidden.all_entries.Given as goal
 

@@ -1,5 +1,5 @@
 use Rattle.std.proofs.Common.{length, sym, subst}
-use Rattle.jn_index.specs.Numbers.{list_at}
+use Rattle.jn_member_tables.specs.Numbers.{list_at}
 use Rattle.jn_index.specs.Entries.{IsListed}
 use Rattle.jn_declaration_rules.specs.Hidden.{owner_entries}
 use Rattle.jn_declaration_rules.proofs.FoundOwners.{small_owners}

@@ -2,7 +2,7 @@ use Rattle.std.proofs.Common.{◌&&◌, ap, ◌∙◌, length}
 use Rattle.jn_points.specs.declared.program.Method.{Method}
 use Rattle.jn_points.specs.Lookup.{method_at}
 use Rattle.jn_points.specs.Members as members
-use Rattle.jn_index.specs.Numbers.{list_at, passes}
+use Rattle.jn_member_tables.specs.Numbers.{list_at, passes}
 use Rattle.jn_declaration_rules.proofs.OwnMethods.{lacking_in_walk}
 use Rattle.jn_declaration_rules.proofs.lacking.has_some_abstract.Goals as goal
 

@@ -1,6 +1,6 @@
 use Rattle.std.proofs.Common.{◌≡◌, ◌<◌, ℕ, true, length, Some}
-use Rattle.jn_index.specs.Numbers.{list_at, contains}
-use Rattle.jn_index.specs.Tables.{find_in}
+use Rattle.jn_member_tables.specs.Numbers.{list_at, contains}
+use Rattle.jn_member_tables.specs.Tables.{find_in}
 use Rattle.jn_index.proofs.along.all_values.Given as goal
 
 abbrev pub invariant-loop-place : goal.invariant-loop-place

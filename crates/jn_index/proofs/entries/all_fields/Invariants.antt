@@ -1,4 +1,4 @@
-use Rattle.jn_index.specs.Numbers.{list_at}
+use Rattle.jn_member_tables.specs.Numbers.{list_at}
 use Rattle.jn_index.specs.Entries as spec
 use Rattle.jn_index.proofs.entries.all_fields.Given as goal
 

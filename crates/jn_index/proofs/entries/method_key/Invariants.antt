@@ -1,5 +1,5 @@
 use Rattle.std.proofs.Common.{◌≡◌, drop}
-use Rattle.jn_index.specs.Numbers.{first_in}
+use Rattle.jn_member_tables.specs.Numbers.{first_in}
 use Rattle.jn_index.specs.Entries as spec
 use Rattle.jn_index.proofs.entries.method_key.Given as goal
 

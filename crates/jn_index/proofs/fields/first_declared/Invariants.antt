@@ -1,5 +1,5 @@
 use Rattle.std.proofs.Common.{◌≡◌, drop}
-use Rattle.jn_index.specs.Numbers.{first_in}
+use Rattle.jn_member_tables.specs.Numbers.{first_in}
 use Rattle.jn_index.specs.Index as index
 use Rattle.jn_index.proofs.fields.first_declared.Given as goal
 

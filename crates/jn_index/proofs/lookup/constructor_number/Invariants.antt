@@ -1,6 +1,6 @@
 use Rattle.std.proofs.Common.{◌≡◌, drop}
 use Rattle.jn_points.specs.Members as spec
-use Rattle.jn_index.specs.Numbers.{first_in}
+use Rattle.jn_member_tables.specs.Numbers.{first_in}
 use Rattle.jn_index.specs.Index as index
 use Rattle.jn_index.proofs.lookup.constructor_number.Given as goal
 

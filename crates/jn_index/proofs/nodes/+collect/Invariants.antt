@@ -1,4 +1,0 @@
-use Rattle.jn_index.proofs.nodes.+collect.Given as goal
-
-abbrev pub decreases-collect : goal.decreases-collect
-decreases-collect l = l.height

@@ -1,4 +1,0 @@
-use Rattle.jn_index.proofs.nodes.+find.Given as goal
-
-abbrev pub decreases-find : goal.decreases-find
-decreases-find l = l.height

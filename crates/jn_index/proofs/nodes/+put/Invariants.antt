@@ -1,4 +1,0 @@
-use Rattle.jn_index.proofs.nodes.+put.Given as goal
-
-abbrev pub decreases-put : goal.decreases-put
-decreases-put l = l.height

@@ -1,5 +1,0 @@
-use Rattle.jn_index.specs.Tables as spec
-use Rattle.jn_index.proofs.tables.add_in_order.Given as goal
-
-abbrev pub invariant-loop-class : goal.invariant-loop-class
-invariant-loop-class l = spec.AreTrees l.program l.own l.height l.nodes.items l.roots.items

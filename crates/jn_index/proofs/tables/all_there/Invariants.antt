@@ -1,6 +1,0 @@
-use Rattle.std.proofs.Common.{◌≡◌, ◌<◌, ℕ, true}
-use Rattle.jn_index.specs.Along as along
-use Rattle.jn_index.proofs.tables.all_there.Given as goal
-
-abbrev pub invariant-loop-root : goal.invariant-loop-root
-invariant-loop-root l = (c : ℕ) → c < l.root-index → along.has_root l.roots c ≡ true

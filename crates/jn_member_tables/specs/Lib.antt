@@ -1,0 +1,4 @@
+pub mod Numbers
+pub mod Along
+pub mod Nodes
+pub mod Tables
