@@ -7,5 +7,3 @@ pub mod Walking
 pub mod Declaring
 pub mod Stepping
 pub mod Wholes
-pub mod Facts
-pub mod OwnFields

@@ -1,4 +1,3 @@
 pub mod Views
 pub mod Before
 pub mod Standing
-pub mod Large

@@ -1,8 +1,7 @@
-//! Rows J1 to J6: why a file has no points (JLS 8, 6 to 15).
+//! Rows J1 to J5: why a file has no points (JLS 8, 6 to 15).
 //!
 //! `files::file_rows` looks at what stands outside bodies, `bodies::body_rows` at a body, of which `expressions::expression` and
-//! `statements::statements` look at the parts, and `limits::limit_rows` at the points of a body that has no other row. Each adds
-//! exactly the rows that `jn_lowering` defines, in their order.
+//! `statements::statements` look at the parts. Each adds exactly the rows that `jn_lowering` defines, in their order.
 #![tactic(auto)]
 
 pub mod annotations;
@@ -12,7 +11,6 @@ pub mod entry;
 pub mod expressions;
 pub mod files;
 pub mod initializers;
-pub mod limits;
 pub mod members;
 pub mod names;
 pub mod notes;

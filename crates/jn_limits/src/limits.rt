@@ -1,4 +1,4 @@
-//! Row J6: a body that is too large.
+//! A body that is too large.
 ghost use Rattle.std.specs.Prelude.{◌≡◌, ◌+◌, ◌++◌, ◌∷◌, ◌&&◌, [], filter, ltb, length, map, IfOk, OnOk, MatchOption, nat_eq};
 ghost use Rattle.std.specs.HashSet as bag;
 ghost use Rattle.std.specs.Set.{distinct_count};
@@ -8,9 +8,8 @@ ghost use Rattle.jn_env.specs.Keys.{is_own, kind_keys, origin_key};
 ghost use Rattle.jn_lowering.specs.Annotations as annotated;
 ghost use Rattle.jn_lowering.specs.Bodies as bodies;
 ghost use Rattle.jn_lowering.specs.BodyRows as spec;
-ghost use Rattle.jn_lower_rows.specs.Large.{AllNarrow, IsNarrow, code, facts_at, facts_of};
+ghost use Rattle.jn_limits.specs.Large.{AllNarrow, IsNarrow, code, facts_at, facts_of};
 
-use crate::row::push_if;
 use jn_base::{Code, FieldNo, MethodNo, RegNo, Row, Seq};
 use jn_env::keys::is_ref_field;
 use jn_index::indexed::IndexedProgram;
@@ -206,6 +205,11 @@ pub fn limit_rows(
         ++ annotated.when (spec.is_too_large program.now body.now)
         (annotated.row J6 (bodies.name_span program.now body.now.method.0))) }
 {
-    let large = is_too_large(alloc, program, body)?;
-    push_if(rows, large, Code::J6, name_span(program, body.method))
+    if is_too_large(alloc, program, body)? {
+        rows.push(Row {
+            span: name_span(program, body.method),
+            code: Code::J6,
+        })?;
+    }
+    Ok(())
 }

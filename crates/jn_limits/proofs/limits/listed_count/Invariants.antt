@@ -2,7 +2,7 @@ use Rattle.std.proofs.Common.{◌≡◌, ◌≤◌, filter, length}
 use Rattle.jn_points.specs.Lookup.{method_at}
 use Rattle.jn_points.specs.Members.{below}
 use Rattle.jn_env.specs.Keys.{is_own}
-use Rattle.jn_lower_rows.proofs.limits.listed_count.Given as goal
+use Rattle.jn_limits.proofs.limits.listed_count.Given as goal
 
 abbrev pub invariant-loop-field : goal.invariant-loop-field
 invariant-loop-field l = (l.count ≡ length (filter (is_own l.program (method_at l.program l.method.0)) (below l.field))) × (l.count ≤ l.field)

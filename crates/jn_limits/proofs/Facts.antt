@@ -7,7 +7,7 @@ use Rattle.std.proofs.lemmas.List.{length-map}
 use Rattle.std.proofs.lemmas.Bool.Decides.{nat_tests}
 use Rattle.std.proofs.lemmas.Map.Made.{length-from_keys}
 use Rattle.jn_env.specs.Keys.{Key, distinct, is_key}
-use Rattle.jn_lower_rows.specs.Large.{AllNarrow, IsNarrow, code}
+use Rattle.jn_limits.specs.Large.{AllNarrow, IsNarrow, code}
 
 code_same : (a b : Key) → IsNarrow a → IsNarrow b → nat_eq (code a) (code b) ≡ is_key a.reg a.field b
 code_same a b n m = grind (arith, nat_tests)
