@@ -2,10 +2,9 @@
 ghost use Rattle.std.specs.Prelude.{◌≡◌, IfOk, option_copied};
 ghost use Rattle.jn_causes.specs.Causes as spec;
 ghost use Rattle.jn_reporters.specs.Reports.{plain_row};
-ghost use Rattle.jn_reporters.specs.Words.{note_words};
 
-use itoa::{Buffer, Integer};
 use jn_base::{Code, OutOfMemory, Seq};
+use jn_reporters::telling::noted;
 use jn_reporters::{Plain, Reporter, RowView, ShownNote};
 use std::alloc::{AllocError, Global};
 
@@ -29,20 +28,6 @@ fn end_of(notes: &[ShownNote]) -> Option<&ShownNote>
         left = before;
     }
     None
-}
-
-/// What a note tells, and where: `TEXT FILE:LINE:COL`.
-fn noted(alloc: Global, note: &ShownNote) -> Result<Vec<u8>, AllocError>
-    ensures { IfOk result (λ text. text.items ≡ note_words note.now) }
-{
-    let mut text = Vec::from_slice(alloc, note.text.as_slice())?;
-    text.extend_from_slice(b" ")?;
-    text.extend_from_slice(note.name.as_str().as_bytes())?;
-    text.extend_from_slice(b":")?;
-    text.extend_from_slice(Buffer::new().format(note.line).as_bytes())?;
-    text.extend_from_slice(b":")?;
-    text.extend_from_slice(Buffer::new().format(note.col).as_bytes())?;
-    Ok(text)
 }
 
 /// What stands after the number of rows of a group: `: ` and the end, or a space and the code.

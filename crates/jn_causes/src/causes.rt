@@ -6,10 +6,10 @@ ghost use Rattle.jn_reporters.specs.Sheet.{nothing_taken};
 
 use crate::caused::{Caused, caused_of};
 use crate::gather::groups_text;
-use crate::taken::{TakenRows, with_row};
 use jn_base::OutOfMemory;
 use jn_diag::Verdict;
 use jn_outside::Told;
+use jn_reporters::taken::{TakenRows, with_row};
 use jn_reporters::{Plain, Reporter, RowView};
 use std::alloc::Global;
 use std::marker::Model;

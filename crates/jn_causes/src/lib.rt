@@ -9,6 +9,5 @@ pub mod causes;
 mod gather;
 mod group;
 mod heads;
-mod taken;
 
 pub use causes::Causes;

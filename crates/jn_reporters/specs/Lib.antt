@@ -1,14 +1,9 @@
 pub mod Anchors
-pub mod Checkstyle
 pub mod Counts
-pub mod Escapes
 pub mod Excerpts
-pub mod Fingerprints
 pub mod Forms
-pub mod Github
 pub mod Longs
 pub mod Reports
-pub mod Sarif
 pub mod Sheet
 pub mod Views
 pub mod Walks

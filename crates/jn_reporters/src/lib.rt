@@ -1,44 +1,31 @@
 //! Reporters, which make the text of a report from rows and a verdict.
 //!
 //! A [`Reporter`] takes each row once and in order, with what is shown of the line on which it begins and with its notes ([`RowView`]),
-//! and then the verdict; its bytes are a function of both, defined in `specs/` for each of [`Plain`], [`Long`], [`Tabbed`], [`Summary`],
-//! [`Github`], [`Checkstyle`] and [`Sarif`]. `docs/HOWTO.md` says how to add one.
+//! and then the verdict; its bytes are a function of both, defined in `specs/` for each of [`Plain`], [`Long`], [`Tabbed`] and
+//! [`Summary`]. `docs/HOWTO.md` says how to add one.
 #![tactic(auto)]
 
 pub mod anchors;
-mod attribute;
-pub mod checkstyle;
-mod codes;
-pub mod document;
-mod escapes;
+pub mod codes;
 pub mod excerpt;
-mod fingerprint;
-pub mod github;
-pub mod kept;
 mod lines;
 pub mod long;
 mod look;
 pub mod plain;
 pub mod reporter;
-pub mod sarif;
-mod sheet;
+pub mod sheet;
 pub mod shown;
 pub mod summary;
 pub mod tabbed;
-mod taken;
-mod telling;
+pub mod taken;
+pub mod telling;
 pub mod view;
 
 pub use anchors::code_anchor;
-pub use checkstyle::Checkstyle;
-pub use document::{Document, Format};
 pub use excerpt::{Excerpt, end_of, excerpt_for};
-pub use github::Github;
-pub use kept::KeptRow;
 pub use long::Long;
 pub use plain::Plain;
 pub use reporter::Reporter;
-pub use sarif::Sarif;
 pub use shown::ShownNote;
 pub use summary::Summary;
 pub use tabbed::Tabbed;

@@ -1,10 +1,8 @@
 //! What each reporter writes: a row and a verdict, and then one row more; and names of files with bytes that are escaped.
 use jn_base::{Code, FileNo, OutOfMemory, Seq, Span, Text};
 use jn_diag::{RowText, Verdict};
-use jn_reporters::{
-    Checkstyle, Github, Long, Plain, Reporter, RowView, Sarif, ShownNote, Summary, Tabbed,
-    excerpt_for,
-};
+use jn_report_formats::{Checkstyle, Github, Sarif};
+use jn_reporters::{Long, Plain, Reporter, RowView, ShownNote, Summary, Tabbed, excerpt_for};
 use std::alloc::Global;
 use std::process::Abort;
 

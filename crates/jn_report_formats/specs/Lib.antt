@@ -1,0 +1,6 @@
+pub mod Checkstyle
+pub mod Escapes
+pub mod Fingerprints
+pub mod Github
+pub mod Kept
+pub mod Sarif

@@ -1,6 +1,0 @@
-use Rattle.std.proofs.Common.{◌≡◌, ◌++◌, drop}
-use Rattle.jn_reporters.specs.Sarif as spec
-use Rattle.jn_reporters.proofs.sarif.occurring.Given as goal
-
-abbrev pub invariant-loop-code : goal.invariant-loop-code
-invariant-loop-code l = l.found.items ++ spec.occurring l.rows (drop l.code-index l.codes) ≡ spec.occurring l.rows l.codes
