@@ -16,7 +16,7 @@ use Rattle.jn_lsp_hover.specs.Related.{home_of, no_file, range_in}
 use Rattle.jn_lsp_text.specs.declared.reply.Diagnostic.{Diagnostic}
 use Rattle.jn_lsp_text.specs.declared.reply.Related.{Related}
 use Rattle.jn_lsp_text.specs.declared.reply.Said.TheVariants.{Unchecked}
-use Rattle.jn_notes.specs.declared.note.Notes.{Notes}
+use Rattle.jn_note_words.specs.declared.note.Notes.{Notes}
 use Rattle.jn_notes.specs.Noted.{AreNotesOf}
 use Rattle.jn_phase_notes.specs.Phases.{PhaseNotes}
 use Rattle.jn_recheck.specs.Files.{is_as_before}

@@ -7,7 +7,7 @@ use jn_base::{OutOfMemory, Row, Seq, Text};
 use jn_front::SourceFile;
 use jn_lsp_hover::related::{all_related, home, range_in};
 use jn_lsp_text::{Diagnostic, Said};
-use jn_notes::{Note, Notes};
+use jn_note_words::{Note, Notes};
 use std::alloc::{AllocError, Global};
 
 /// What is told of a file: its diagnostics in the order of the report.

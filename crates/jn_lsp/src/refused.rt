@@ -7,7 +7,7 @@ ghost use Rattle.jn_report.specs.Report.{IsReport};
 use crate::reporting::WORKERS;
 use jn_base::{Infer, OutOfMemory, Row};
 use jn_front::SourceFile;
-use jn_notes::Notes;
+use jn_note_words::Notes;
 use jn_phase_notes::law::notes_by_what_was_read_are_those_of_files;
 use jn_phase_notes::{notes_of_phase, notes_of_texts};
 use jn_phases::law::files_have_one_typing;

@@ -9,7 +9,7 @@ use crate::unchecked::{LastReport, unchecked_of_all};
 use jn_base::{Infer, OutOfMemory};
 use jn_diag::Verdict;
 use jn_front::SourceFile;
-use jn_notes::Notes;
+use jn_note_words::Notes;
 use jn_recheck::{Checked, Session};
 use jn_sharing::Gate;
 use std::alloc::Global;

@@ -15,7 +15,7 @@ use jn_base::{Code, OutOfMemory, Place, Row, Seq, Span, Text, place_of as place_
 use jn_front::SourceFile;
 use jn_lsp_hover::related::{home, name_of, range_in};
 use jn_lsp_text::{Diagnostic, Related, Said, copy_diagnostics};
-use jn_notes::Notes;
+use jn_note_words::Notes;
 use std::alloc::{AllocError, Global};
 
 /// The last report that came to the rules: the files that stood then, and what it told of each of them. Before the first one there are none.

@@ -15,8 +15,8 @@ use Rattle.jn_sigs.specs.Signature.{slot_qual}
 use Rattle.jn_transfer.specs.Contributions.{field_slot_of, result_slot_of}
 use Rattle.jn_transfer.specs.Pairs.{overriders, under}
 use Rattle.jn_transfer.specs.Rules.{lacks_null}
-use Rattle.jn_notes.specs.declared.owners.Owner.{Owner}
-use Rattle.jn_notes.specs.declared.owners.Owner.TheVariants.{OfField, OfParameter, OfReceiver, OfResult}
+use Rattle.jn_note_words.specs.declared.owners.Owner.{Owner}
+use Rattle.jn_note_words.specs.declared.owners.Owner.TheVariants.{OfField, OfParameter, OfReceiver, OfResult}
 use Rattle.jn_notes.specs.declared.pairs.Part.{Part}
 use Rattle.jn_notes.specs.declared.pairs.Part.TheVariants.{OverParameters, OverReceiver, OverResult}
 use Rattle.jn_notes.specs.declared.reads.Sought.{Sought}

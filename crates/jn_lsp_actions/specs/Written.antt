@@ -17,8 +17,8 @@ use Rattle.jn_annotate.specs.Words.{is_unspelled}
 use Rattle.jn_annotate.specs.Imports.{with_lines}
 use Rattle.jn_annotate.specs.Insertions.{file_fields, file_methods, in_file}
 use Rattle.jn_annotate.specs.Taken.{declares}
-use Rattle.jn_notes.specs.Owned.{owner_of}
-use Rattle.jn_notes.specs.Worded.{owner_words}
+use Rattle.jn_note_words.specs.Owned.{owner_of}
+use Rattle.jn_note_words.specs.Worded.{owner_words}
 use Rattle.jn_lsp_text.specs.Positions.{position_at}
 use Rattle.jn_lsp_text.specs.declared.reply.Action.{Action}
 use Rattle.jn_lsp_text.specs.declared.reply.Insertion.{Insertion}

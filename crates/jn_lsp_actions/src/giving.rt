@@ -1,6 +1,6 @@
 //! The actions of slots, each once.
 ghost use Rattle.std.specs.Prelude.{◌≡◌, ◌++◌, ◌∷◌, [], map, option_to_list, IfOk, OnOk};
-ghost use Rattle.jn_notes.specs.Owned.{AreOwners};
+ghost use Rattle.jn_note_words.specs.Owned.{AreOwners};
 ghost use Rattle.jn_recheck.specs.Files.{AllFit};
 ghost use Rattle.jn_trees.specs.View.{file_view};
 ghost use Rattle.jn_lsp_actions.specs.Offered as spec;

@@ -15,7 +15,7 @@ use jn_base::lists::put;
 use jn_base::{FieldNo, MethodNo, OutOfMemory, Row, SlotNo, Span};
 use jn_contrib::Overrider;
 use jn_env::FlowTable;
-use jn_notes::owners::Owner;
+use jn_note_words::owners::Owner;
 use jn_notes::pairs::{Part, part_of};
 use jn_notes::reads::{Sought, same_span, sought_of};
 use jn_notes::takers::taker;

@@ -14,8 +14,8 @@ use Rattle.jn_lsp_text.specs.Positions.{IsOffsetOf}
 use Rattle.jn_lsp_text.specs.Ranges.{range_at}
 use Rattle.jn_lsp_text.specs.declared.position.Position.{Position}
 use Rattle.jn_lsp_text.specs.declared.reply.Hover.{Hover}
-use Rattle.jn_notes.specs.declared.note.Note.{Note}
-use Rattle.jn_notes.specs.declared.note.Notes.{Notes}
+use Rattle.jn_note_words.specs.declared.note.Note.{Note}
+use Rattle.jn_note_words.specs.declared.note.Notes.{Notes}
 use Rattle.jn_notes.specs.Noted.{AreFrom, AreLeastTables}
 use Rattle.jn_phases.specs.Phases.{IsPhase, TypedProgramOf}
 use Rattle.jn_points.specs.declared.program.Program.{Program}

@@ -7,7 +7,7 @@ use Rattle.jn_front.specs.declared.source.SourceFile.{SourceFile}
 use Rattle.jn_lsp_text.specs.declared.range.Range.{Range}
 use Rattle.jn_lsp_text.specs.Ranges.{range_at}
 use Rattle.jn_lsp_text.specs.declared.reply.Related.{Related}
-use Rattle.jn_notes.specs.declared.note.Note.{Note}
+use Rattle.jn_note_words.specs.declared.note.Note.{Note}
 
 -- the number of the file where a span stands: of no file, the first
 abbrev pub home : List SourceFile → Span → ℕ

@@ -1,8 +1,8 @@
 -- What may be of a value, in words.
 use Rattle.std.specs.Prelude.{ℕ, ◌++◌, Bool, true, false, List, codes, slice_get}
 use Rattle.std.specs.Str.Lossy.{utf8_lossy}
-use Rattle.jn_notes.specs.Owned.{owner_of}
-use Rattle.jn_notes.specs.Worded.{owner_words}
+use Rattle.jn_note_words.specs.Owned.{owner_of}
+use Rattle.jn_note_words.specs.Worded.{owner_words}
 use Rattle.jn_points.specs.declared.program.Program.{Program}
 use Rattle.jn_quals.specs.Qualifier.{Qualifier}
 use Rattle.jn_transfer.specs.Contributions.{is_inferred}

@@ -26,7 +26,7 @@ use jn_heads::extract::heads;
 use jn_index::BaseTyped;
 use jn_index::indexed::IndexedProgram;
 use jn_lsp_text::{Hover, Position, offset_of, range_of};
-use jn_notes::owners::find_owners;
+use jn_note_words::owners::find_owners;
 use jn_notes::tables::least_tables;
 use jn_origins::LeastOrigins;
 use jn_origins::law::least_tables_are_sized;

@@ -2,7 +2,7 @@
 ghost use Rattle.std.specs.Prelude.{◌≡◌, ◌++◌, IfOk, slice_index_or};
 ghost use Rattle.jn_inference_law.specs.Solution.{IsLeastSignature};
 ghost use Rattle.jn_notes.specs.Noted.{AreFrom, AreLeastTables};
-ghost use Rattle.jn_notes.specs.Owned.{AreOwners};
+ghost use Rattle.jn_note_words.specs.Owned.{AreOwners};
 ghost use Rattle.jn_quals.specs.Order.{no_qual};
 ghost use Rattle.jn_reasons_law.specs.Items.{on};
 ghost use Rattle.jn_tables_law.specs.Inferable.{IsInferable};
@@ -10,9 +10,9 @@ ghost use Rattle.jn_lsp_hover.specs.Hovered.{AreReasons, bit_item};
 
 use crate::solved::Solved;
 use jn_base::{OutOfMemory, SlotNo};
+use jn_note_words::owners::Owner;
+use jn_note_words::{Note, Notes};
 use jn_notes::explain::{no_notes, notes_from};
-use jn_notes::owners::Owner;
-use jn_notes::{Note, Notes};
 use jn_origins::LeastOrigins;
 use jn_origins::law::{least_tables_are_sized, what_stands_has_a_chain};
 use jn_quals::Qual;

@@ -6,7 +6,7 @@ ghost use Rattle.jn_recheck.specs.Files.{AllFit};
 use jn_base::{Seq, Span, Text};
 use jn_front::SourceFile;
 use jn_lsp_text::{Range, Related, range_of};
-use jn_notes::Note;
+use jn_note_words::Note;
 use std::alloc::{AllocError, Global};
 
 /// The number of the file where the span stands: of no file, the first.

@@ -1,12 +1,12 @@
 //! What may be of a value, in words.
 ghost use Rattle.std.specs.Prelude.{◌≡◌, IfOk, slice_get};
-ghost use Rattle.jn_notes.specs.Owned.{AreOwners};
+ghost use Rattle.jn_note_words.specs.Owned.{AreOwners};
 ghost use Rattle.jn_transfer.specs.Contributions.{is_inferred};
 ghost use Rattle.jn_lsp_hover.specs.Worded as spec;
 
 use jn_base::Text;
-use jn_notes::owners::{Owner, owner_at};
-use jn_notes::words::owner_words;
+use jn_note_words::owners::{Owner, owner_at};
+use jn_note_words::words::owner_words;
 use jn_points::Program;
 use jn_quals::Qual;
 use jn_trees::Names;

@@ -13,8 +13,8 @@ use Rattle.jn_reasons_law.specs.declared.item.Step.{Step}
 use Rattle.jn_reasons_law.specs.Choice.{IsFirstChain, told}
 use Rattle.jn_voided.specs.Voided.{IsFound}
 use Rattle.jn_voided.specs.declared.search.Voided.{Voided}
-use Rattle.jn_notes.specs.declared.note.Note.{Note}
-use Rattle.jn_notes.specs.declared.note.Notes.{Notes}
+use Rattle.jn_note_words.specs.declared.note.Note.{Note}
+use Rattle.jn_note_words.specs.declared.note.Notes.{Notes}
 use Rattle.jn_notes.specs.Asked.{item_of}
 use Rattle.jn_notes.specs.Noted.{headed, noted, AreBy, AreFrom, AreNotes, AreEach, AreLeastTables, AreNotesOf}
 use Rattle.jn_notes.specs.Spoken.{topics_of}

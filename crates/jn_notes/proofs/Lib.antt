@@ -1,5 +1,4 @@
 mod Alike
-mod Filling
 mod Finding
 mod Lacking
 mod Leaving

@@ -14,8 +14,8 @@ use Rattle.jn_tables_law.specs.Inferable.{IsInferable, least_table}
 use Rattle.jn_reasons_law.specs.declared.item.Item.{Item}
 use Rattle.jn_reasons_law.specs.declared.item.Step.{Step}
 use Rattle.jn_reasons_law.specs.Choice.{IsFirstChain, told}
-use Rattle.jn_notes.specs.declared.note.Note.{Note}
-use Rattle.jn_notes.specs.declared.note.Notes.{Notes}
+use Rattle.jn_note_words.specs.declared.note.Note.{Note}
+use Rattle.jn_note_words.specs.declared.note.Notes.{Notes}
 use Rattle.jn_notes.specs.Asked.{item_of}
 use Rattle.jn_notes.specs.Noted.{note_of, noted, no_notes, AreBy, AreFrom, AreNotes, AreEach, AreNotesOf}
 use Rattle.jn_notes.specs.Voids.{AreVoids, read_in}

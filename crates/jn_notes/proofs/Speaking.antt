@@ -12,8 +12,8 @@ use Rattle.jn_points.specs.Lookup.{body_at, points_of}
 use Rattle.jn_points.specs.Members.{below}
 use Rattle.jn_env.specs.Keys.{own_keys}
 use Rattle.jn_env.specs.Order.{Table, env_in}
-use Rattle.jn_notes.specs.declared.note.Note.{Note}
-use Rattle.jn_notes.specs.declared.note.Notes.{Notes}
+use Rattle.jn_note_words.specs.declared.note.Note.{Note}
+use Rattle.jn_note_words.specs.declared.note.Notes.{Notes}
 use Rattle.jn_notes.specs.declared.topics.Topic.{Topic}
 use Rattle.jn_notes.specs.Asked.{item_of}
 use Rattle.jn_notes.specs.Noted.{headed, AreFrom, AreNotes}

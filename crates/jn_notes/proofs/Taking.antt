@@ -16,11 +16,11 @@ use Rattle.jn_transfer.specs.Pairs.{overriders, under}
 use Rattle.jn_contrib.specs.declared.listed.Overrider.{Overrider}
 use Rattle.jn_contrib.specs.Entries.{AreOverriders}
 use Rattle.jn_sigs.specs.Signature.{slot_qual, slot_quals}
-use Rattle.jn_notes.specs.declared.owners.Owner.{Owner}
-use Rattle.jn_notes.specs.declared.owners.Owner.TheVariants.{OfParameter}
+use Rattle.jn_note_words.specs.declared.owners.Owner.{Owner}
+use Rattle.jn_note_words.specs.declared.owners.Owner.TheVariants.{OfParameter}
 use Rattle.jn_notes.specs.declared.reads.Sought.{Sought}
 use Rattle.jn_notes.specs.declared.pairs.Part.{Part}
-use Rattle.jn_notes.specs.Owned.{first_owner, or_owner}
+use Rattle.jn_note_words.specs.Owned.{first_owner, or_owner}
 use Rattle.jn_notes.specs.Spoken.{Pass, pass, pass_args, by_pass, by_passes, taker_by, taker_at, if_outside, first_outside, changed_by, overridden_at}
 use Rattle.jn_notes.proofs.Finding.{method_there, there}
 

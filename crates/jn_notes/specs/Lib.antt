@@ -1,8 +1,6 @@
-pub mod Owned
 pub mod Asks
 pub mod Asked
 pub mod Lacking
-pub mod Worded
 pub mod Voids
 pub mod Unkept
 pub mod Spoken

@@ -8,14 +8,14 @@ use Rattle.jn_transfer.specs.Least.{IsLeastTable}
 use Rattle.jn_reasons_law.specs.declared.item.Item.{Item}
 use Rattle.jn_reasons_law.specs.declared.item.Step.{Step}
 use Rattle.jn_reasons_law.specs.Choice.{IsFirstChain, told}
-use Rattle.jn_notes.specs.declared.note.Note.{Note}
-use Rattle.jn_notes.specs.declared.note.Notes.{Notes}
+use Rattle.jn_note_words.specs.declared.note.Note.{Note}
+use Rattle.jn_note_words.specs.declared.note.Notes.{Notes}
 use Rattle.jn_notes.specs.declared.topics.Topic.{Topic}
 use Rattle.jn_notes.specs.Asked.{item_of}
 use Rattle.jn_notes.specs.Spoken.{topic_note, topics_of}
 use Rattle.jn_notes.specs.Unkept.{preceded}
 use Rattle.jn_notes.specs.Voids.{AreVoids, read_in}
-use Rattle.jn_notes.specs.Worded.{place_span, step_words}
+use Rattle.jn_note_words.specs.Worded.{place_span, step_words}
 
 -- how many steps of a chain are shown at most, and how many declarations that a row speaks of
 abbrev pub most_shown : ℕ

@@ -24,9 +24,9 @@ use Rattle.jn_transfer.specs.Pairs.{overriders, under}
 use Rattle.jn_transfer.specs.Rules.{lacks_init, lacks_null}
 use Rattle.jn_reasons_law.specs.declared.item.Bit.{Bit}
 use Rattle.jn_reasons_law.specs.declared.item.Bit.TheVariants.{Nullable, Committed, Free}
-use Rattle.jn_notes.specs.declared.note.Note.{Note}
-use Rattle.jn_notes.specs.declared.owners.Owner.{Owner}
-use Rattle.jn_notes.specs.declared.owners.Owner.TheVariants.{OfField, OfParameter, OfReceiver, OfResult}
+use Rattle.jn_note_words.specs.declared.note.Note.{Note}
+use Rattle.jn_note_words.specs.declared.owners.Owner.{Owner}
+use Rattle.jn_note_words.specs.declared.owners.Owner.TheVariants.{OfField, OfParameter, OfReceiver, OfResult}
 use Rattle.jn_notes.specs.declared.pairs.Part.{Part}
 use Rattle.jn_notes.specs.declared.pairs.Part.TheVariants.{OverParameters, OverReceiver, OverResult}
 use Rattle.jn_notes.specs.declared.reads.Rule.{Rule}
@@ -36,8 +36,8 @@ use Rattle.jn_notes.specs.declared.topics.Topic.{Topic}
 use Rattle.jn_notes.specs.declared.topics.Topic.TheVariants.{Takes, Overridden, Unassigned}
 use Rattle.jn_notes.specs.Asked.{part_of, same_span, sought_of, stands_at}
 use Rattle.jn_notes.specs.Asks.{write_taken}
-use Rattle.jn_notes.specs.Owned.{first_owner, or_owner}
-use Rattle.jn_notes.specs.Worded.{field_name, owner_span, owner_words}
+use Rattle.jn_note_words.specs.Owned.{first_owner, or_owner}
+use Rattle.jn_note_words.specs.Worded.{field_name, owner_span, owner_words}
 
 -- ---- what takes a value
 

@@ -9,9 +9,9 @@ use Rattle.jn_unkept.specs.declared.search.Reading.{Reading}
 use Rattle.jn_unkept.specs.declared.search.Reading.TheVariants.{OfField, OfElement, OfResult, Stored}
 use Rattle.jn_unkept.specs.declared.search.Unkept.{Unkept}
 use Rattle.jn_unkept.specs.Unkept.{unkept}
-use Rattle.jn_notes.specs.declared.note.Note.{Note}
-use Rattle.jn_notes.specs.declared.note.Notes.{Notes}
-use Rattle.jn_notes.specs.Worded.{point_span}
+use Rattle.jn_note_words.specs.declared.note.Note.{Note}
+use Rattle.jn_note_words.specs.declared.note.Notes.{Notes}
+use Rattle.jn_note_words.specs.Worded.{point_span}
 
 -- why a test isn't kept of a value that is read so, up to the place of the test
 abbrev pub reading_words : Reading → List ℕ

@@ -17,9 +17,9 @@ use Rattle.jn_reasons_law.specs.declared.item.Place.TheVariants.{OfPoint}
 use Rattle.jn_reasons_law.specs.declared.item.Step.{Step}
 use Rattle.jn_voided.specs.declared.search.Voided.{Voided}
 use Rattle.jn_voided.specs.Voided.{IsFound}
-use Rattle.jn_notes.specs.declared.note.Note.{Note}
+use Rattle.jn_note_words.specs.declared.note.Note.{Note}
 use Rattle.jn_notes.specs.declared.voids.ReadAt.{ReadAt}
-use Rattle.jn_notes.specs.Worded.{field_name, point_span}
+use Rattle.jn_note_words.specs.Worded.{field_name, point_span}
 
 -- ---- the read of a field by which a chain leaves its first registers
 

@@ -3,14 +3,14 @@ ghost use Rattle.std.specs.Prelude.{◌≡◌, length, Some};
 ghost use Rattle.jn_points.specs.Lookup.{method_at};
 ghost use Rattle.jn_sigs.specs.Signature.{slot_quals};
 ghost use Rattle.jn_contrib.specs.Entries.{AreOverriders};
-ghost use Rattle.jn_notes.specs.Owned.{first_owner};
+ghost use Rattle.jn_note_words.specs.Owned.{first_owner};
 ghost use Rattle.jn_notes.specs.Spoken as spec;
 
-use crate::owners::Owner;
 use crate::pairs::Part;
 use crate::reads::same_span;
 use jn_base::{SlotNo, Span, least};
 use jn_contrib::Overrider;
+use jn_note_words::owners::Owner;
 use jn_points::lookup::method_at;
 use jn_points::{Method, Program};
 use jn_quals::Qual;

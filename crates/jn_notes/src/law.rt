@@ -5,7 +5,7 @@ ghost use Rattle.jn_quals.specs.Qualifier.{Qualifier};
 ghost use Rattle.jn_points.specs.declared.program.Program.{Program};
 ghost use Rattle.jn_env.specs.Order.{Table};
 ghost use Rattle.jn_reasons_law.specs.declared.item.Item.{Item};
-ghost use Rattle.jn_notes.specs.declared.note.Notes.{Notes};
+ghost use Rattle.jn_note_words.specs.declared.note.Notes.{Notes};
 ghost use Rattle.jn_notes.specs.declared.reads.Sought.{Sought};
 ghost use Rattle.jn_notes.specs.Asked.{item_of, sought_of};
 ghost use Rattle.jn_notes.specs.Lacking.{IsLacking, TakesAll};

@@ -9,17 +9,12 @@ pub mod changes;
 pub mod explain;
 pub mod law;
 pub mod lefts;
-pub mod note;
-pub mod owners;
 pub mod pairs;
 pub mod reads;
-pub mod spans;
 pub mod tables;
 pub mod takers;
 pub mod topics;
 pub mod unkept;
 pub mod voids;
-pub mod words;
 
 pub use explain::notes_of_rows;
-pub use note::{Note, Notes};

@@ -2,10 +2,10 @@
 ghost use Rattle.std.specs.Prelude.{◌≡◌, IfOk, None, Some};
 ghost use Rattle.jn_notes.specs.Unkept as spec;
 
-use crate::note::{Note, Notes};
-use crate::spans::point_span;
 use jn_base::lists::put;
 use jn_base::{OutOfMemory, Seq};
+use jn_note_words::note::{Note, Notes};
+use jn_note_words::spans::point_span;
 use jn_points::Program;
 use jn_reasons_law::{Bit, Item};
 use jn_unkept::{Held, Reading, Unkept, find_unkept};

@@ -13,7 +13,7 @@ use Rattle.jn_front.specs.declared.source.SourceFile.{SourceFile}
 use Rattle.jn_front.specs.declared.source.SourceRead.{SourceRead}
 use Rattle.jn_front.specs.Files.{AreReads, IsReadOf, files_of_reads, most_files}
 use Rattle.jn_front.specs.Limits.{row_at}
-use Rattle.jn_notes.specs.declared.note.Notes.{Notes}
+use Rattle.jn_note_words.specs.declared.note.Notes.{Notes}
 use Rattle.jn_phases.specs.Phases.{AreTreesOrNone, NoneParsed}
 use Rattle.jn_places.specs.Placed.{PlacedFile}
 use Rattle.jn_reporters.specs.Excerpts.{is_limit}

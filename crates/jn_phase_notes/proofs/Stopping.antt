@@ -12,7 +12,7 @@ use Rattle.jn_front.specs.declared.source.SourceRead.{SourceRead}
 use Rattle.jn_front.specs.Counted.{ReadsFit}
 use Rattle.jn_front.proofs.Loops.{fits_at}
 use Rattle.jn_front.specs.Files.{files_of_reads}
-use Rattle.jn_notes.specs.declared.note.Notes.{Notes}
+use Rattle.jn_note_words.specs.declared.note.Notes.{Notes}
 use Rattle.jn_notes.specs.Noted.{no_notes}
 use Rattle.jn_phase_notes.specs.Stops.{AreStops, AreStopsBy, AreStopsIn, is_syntax, stop_notes}
 

@@ -3,7 +3,7 @@ use Rattle.std.specs.Prelude.{ℕ, ◌≡◌, ◌⊎◌, List, [], ◌∷◌, ma
 use Rattle.jn_base.specs.declared.place.Row.{Row}
 use Rattle.jn_front.specs.Phases.{AreParsed}
 use Rattle.jn_front.specs.declared.source.SourceFile.{SourceFile}
-use Rattle.jn_notes.specs.declared.note.Notes.{Notes}
+use Rattle.jn_note_words.specs.declared.note.Notes.{Notes}
 use Rattle.jn_phases.specs.Phases.{NoneParsed}
 use Rattle.jn_places.specs.Placed.{PlacedFile}
 use Rattle.jn_trees.specs.declared.token.Token.{Token}

@@ -9,11 +9,11 @@ use Rattle.jn_points.specs.declared.program.Program.{Program}
 use Rattle.jn_points.specs.Lookup.{class_info}
 use Rattle.jn_points.specs.Members.{first_at}
 use Rattle.jn_heads.specs.Heads.{no_span}
-use Rattle.jn_notes.specs.declared.note.Note.{Note}
-use Rattle.jn_notes.specs.declared.note.Notes.{Notes}
+use Rattle.jn_note_words.specs.declared.note.Note.{Note}
+use Rattle.jn_note_words.specs.declared.note.Notes.{Notes}
 use Rattle.jn_notes.specs.Asked.{same_span}
 use Rattle.jn_notes.specs.Noted.{most_shown, no_notes}
-use Rattle.jn_notes.specs.Worded.{text_at}
+use Rattle.jn_note_words.specs.Worded.{text_at}
 use Rattle.jn_phase_notes.specs.declared.candidates.Candidate.{Candidate}
 use Rattle.jn_phase_notes.specs.declared.candidates.How.{How}
 use Rattle.jn_phase_notes.specs.declared.candidates.How.TheVariants.{OtherArity, OtherMaker, StaticMethod, AbstractMethod, ObjectMethod, StaticField, ObjectField, AbstractClass, InterfaceType}

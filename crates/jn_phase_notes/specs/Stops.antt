@@ -7,8 +7,8 @@ use Rattle.jn_base.specs.declared.place.Span.{Span}
 use Rattle.jn_follow.specs.declared.noting.StopNote.{StopNote}
 use Rattle.jn_follow.specs.StopNotes.{NoteBeside}
 use Rattle.jn_front.specs.declared.source.SourceFile.{SourceFile}
-use Rattle.jn_notes.specs.declared.note.Note.{Note}
-use Rattle.jn_notes.specs.declared.note.Notes.{Notes}
+use Rattle.jn_note_words.specs.declared.note.Note.{Note}
+use Rattle.jn_note_words.specs.declared.note.Notes.{Notes}
 use Rattle.jn_notes.specs.Noted.{no_notes}
 
 -- the row says that a file's tokens are no file of the subset

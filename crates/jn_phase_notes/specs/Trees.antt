@@ -10,10 +10,10 @@ use Rattle.jn_places.specs.Placed.{PlacedFile}
 use Rattle.jn_heads.specs.declared.head.ClassHead.{ClassHead}
 use Rattle.jn_heads.specs.Extract.{heads}
 use Rattle.jn_classtable.specs.Table.{table}
-use Rattle.jn_notes.specs.declared.note.Note.{Note}
-use Rattle.jn_notes.specs.declared.note.Notes.{Notes}
+use Rattle.jn_note_words.specs.declared.note.Note.{Note}
+use Rattle.jn_note_words.specs.declared.note.Notes.{Notes}
 use Rattle.jn_notes.specs.Asked.{same_span}
-use Rattle.jn_notes.specs.Worded.{text_at}
+use Rattle.jn_note_words.specs.Worded.{text_at}
 use Rattle.jn_phase_notes.specs.declared.mentioning.Mention.{Mention}
 use Rattle.jn_phase_notes.specs.declared.repeated.Second.{Second}
 use Rattle.jn_phase_notes.specs.Earlier.{files_seconds}

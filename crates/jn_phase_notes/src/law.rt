@@ -8,7 +8,7 @@ ghost use Rattle.jn_points.specs.declared.program.Program.{Program as ProgramOf}
 ghost use Rattle.jn_points.specs.Members.{some_of};
 ghost use Rattle.jn_declaration_rules.specs.Rows.{is_bad_override, is_hiding, lacks_body, some_at};
 ghost use Rattle.jn_front.specs.declared.source.SourceFile.{SourceFile};
-ghost use Rattle.jn_notes.specs.declared.note.Notes.{Notes};
+ghost use Rattle.jn_note_words.specs.declared.note.Notes.{Notes};
 ghost use Rattle.jn_places.specs.Placed.{PlacedFile};
 ghost use Rattle.jn_command.specs.Stands.{StandIn};
 ghost use Rattle.jn_front.specs.declared.source.SourceRead.{SourceRead};

@@ -9,7 +9,7 @@ use crate::stops::notes_of_texts;
 use crate::trees::notes_of_trees;
 use jn_base::{OutOfMemory, Row};
 use jn_front::SourceRead;
-use jn_notes::Notes;
+use jn_note_words::Notes;
 use jn_trees::{FileTree, Names};
 use std::alloc::Global;
 

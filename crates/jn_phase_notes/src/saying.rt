@@ -10,7 +10,7 @@ use crate::trees::{between, text_at};
 use itoa::{Buffer, Integer};
 use jn_base::lists::put;
 use jn_base::{OutOfMemory, Seq};
-use jn_notes::{Note, Notes};
+use jn_note_words::{Note, Notes};
 use jn_points::Program;
 use jn_trees::Names;
 use std::alloc::{AllocError, Global};

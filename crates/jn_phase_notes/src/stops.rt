@@ -8,7 +8,7 @@ use jn_base::lists::put;
 use jn_base::{Code, OutOfMemory, Row, Seq, Span};
 use jn_follow::{StopNote, note_beside};
 use jn_front::SourceRead;
-use jn_notes::{Note, Notes};
+use jn_note_words::{Note, Notes};
 use std::alloc::Global;
 
 /// Does a row of this code say that a file's tokens are no file of the subset?

@@ -10,7 +10,7 @@ use Rattle.jn_diag.specs.declared.shown.RowText.{RowText}
 use Rattle.jn_diag.specs.declared.shown.Verdict.{Verdict}
 use Rattle.jn_front.specs.declared.source.SourceFile.{SourceFile}
 use Rattle.jn_inference_law.specs.Solution.{IsLeastSignature}
-use Rattle.jn_notes.specs.declared.note.Notes.{Notes}
+use Rattle.jn_note_words.specs.declared.note.Notes.{Notes}
 use Rattle.jn_notes.specs.Noted.{AreNotesOf}
 use Rattle.jn_recheck_law.specs.Reusable.{Solved}
 use Rattle.jn_recheck.specs.Files.{changed}

@@ -5,7 +5,8 @@ ghost use Rattle.jn_recheck.specs.Sessions.{HaveNotes};
 
 use crate::kept::Kept;
 use jn_base::{OutOfMemory, Row};
-use jn_notes::{Notes, notes_of_rows};
+use jn_note_words::Notes;
+use jn_notes::notes_of_rows;
 use jn_tables_law::law::regular_programs_can_be_inferred;
 use std::alloc::Global;
 

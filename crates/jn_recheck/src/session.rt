@@ -14,7 +14,7 @@ use jn_diag::{RowText, Verdict};
 use jn_front::SourceFile;
 use jn_kept_points::KeptTyping;
 use jn_kept_trees::KeptTree;
-use jn_notes::Notes;
+use jn_note_words::Notes;
 use jn_sharing::Gate;
 use std::alloc::Global;
 use std::marker::Model;

@@ -24,7 +24,7 @@ use Rattle.jn_command.specs.Shown.{no_notes, note_of, noted_at, row_of, rows_wit
 use Rattle.jn_command.proofs.Showing.{none_noted, note_nowhere}
 use Rattle.jn_reporters.specs.declared.shown.ShownNote.{ShownNote}
 use Rattle.jn_reporters.specs.declared.shown.ShownRow.{ShownRow}
-use Rattle.jn_notes.specs.declared.note.Notes.{Notes}
+use Rattle.jn_note_words.specs.declared.note.Notes.{Notes}
 use Rattle.jn_notes.specs.Noted.{AreNotesOf}
 use Rattle.nullcheck_top.specs.declared.found.Found.{Found}
 use Rattle.jn_phase_notes.specs.Phases.{AreNotesBy}

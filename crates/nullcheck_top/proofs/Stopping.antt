@@ -25,7 +25,7 @@ use Rattle.jn_command.specs.Stands.{StandsIn, StandIn}
 use Rattle.jn_command.proofs.Standing.{many_limit, whole_files}
 use Rattle.jn_diag.specs.Order.{code_place}
 use Rattle.jn_reporters.specs.Excerpts.{is_limit}
-use Rattle.jn_notes.specs.declared.note.Notes.{Notes}
+use Rattle.jn_note_words.specs.declared.note.Notes.{Notes}
 use Rattle.jn_phase_notes.specs.Stops.{AreStops, AreStopsBy, AreStopsIn, is_syntax, stop_notes}
 use Rattle.jn_phase_notes.specs.Phases.{AreNotesBy, PhaseNotes as AreOfPhase}
 use Rattle.jn_phase_notes.specs.Trees.{row_notes}

@@ -7,7 +7,7 @@ ghost use Rattle.nullcheck_top.specs.Report.{placed, placed_note};
 use crate::marks::MarkedFile;
 use jn_base::{OutOfMemory, Seq};
 use jn_command::noted::{Noted, Notes as RowNotes, note_of, nothing};
-use jn_notes::{Note, Notes};
+use jn_note_words::{Note, Notes};
 use jn_reporters::ShownNote;
 use std::alloc::Global;
 use std::marker::Model;

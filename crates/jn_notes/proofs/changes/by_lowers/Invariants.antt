@@ -1,5 +1,5 @@
 use Rattle.std.proofs.Common.{◌≡◌, Some, None}
-use Rattle.jn_notes.specs.Owned.{first_owner}
+use Rattle.jn_note_words.specs.Owned.{first_owner}
 use Rattle.jn_notes.specs.Spoken.{changed_at}
 use Rattle.jn_notes.proofs.changes.by_lowers.Given as goal
 

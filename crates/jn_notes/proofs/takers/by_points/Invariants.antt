@@ -1,5 +1,5 @@
 use Rattle.std.proofs.Common.{◌≡◌, None}
-use Rattle.jn_notes.specs.Owned.{first_owner}
+use Rattle.jn_note_words.specs.Owned.{first_owner}
 use Rattle.jn_notes.specs.Spoken.{taker_at}
 use Rattle.jn_notes.proofs.takers.by_points.Given as goal
 

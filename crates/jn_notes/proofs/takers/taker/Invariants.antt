@@ -1,6 +1,6 @@
 use Rattle.std.proofs.Common.{◌≡◌, [], None}
 use Rattle.std.specs.Prelude.{slice_index_or}
-use Rattle.jn_notes.specs.Owned.{first_owner}
+use Rattle.jn_note_words.specs.Owned.{first_owner}
 use Rattle.jn_notes.specs.Spoken.{taker_in}
 use Rattle.jn_notes.proofs.takers.taker.Given as goal
 

@@ -5,8 +5,8 @@ use Rattle.jn_points.specs.declared.program.Field.{Field}
 use Rattle.jn_points.specs.declared.program.Method.{Method}
 use Rattle.jn_points.specs.declared.program.Program.{Program}
 use Rattle.jn_points.specs.Lookup.{field_info, method_at}
-use Rattle.jn_notes.specs.declared.owners.Owner.{Owner}
-use Rattle.jn_notes.specs.declared.owners.Owner.TheVariants.{OfField, OfParameter, OfReceiver, OfResult}
+use Rattle.jn_note_words.specs.declared.owners.Owner.{Owner}
+use Rattle.jn_note_words.specs.declared.owners.Owner.TheVariants.{OfField, OfParameter, OfReceiver, OfResult}
 
 -- the first where there is one, else the second
 abbrev pub or_owner : Option Owner → Option Owner → Option Owner

@@ -1,8 +1,8 @@
 //! Where steps stand in the text.
 ghost use Rattle.std.specs.Prelude.{◌≡◌, MatchOption, None, Some};
 ghost use Rattle.jn_points.specs.Lookup.{field_info, method_at, method_in, point_at};
-ghost use Rattle.jn_notes.specs.Owned.{AreOwners};
-ghost use Rattle.jn_notes.specs.Worded as spec;
+ghost use Rattle.jn_note_words.specs.Owned.{AreOwners};
+ghost use Rattle.jn_note_words.specs.Worded as spec;
 
 use crate::owners::{Owner, owner_at};
 use jn_base::{FieldNo, FileNo, Span};
@@ -45,7 +45,7 @@ fn head_span(program: &Program, body: u32) -> Span
 }
 
 /// The point of a body, where there is one.
-pub(crate) fn point_at(program: &Program, body: u32, point: u32) -> Option<&Point>
+pub fn point_at(program: &Program, body: u32, point: u32) -> Option<&Point>
     ensures { MatchOption result (point_at program.now body point ≡ None)
         (λ p. point_at program.now body point ≡ Some p.now) }
 {
@@ -55,7 +55,7 @@ pub(crate) fn point_at(program: &Program, body: u32, point: u32) -> Option<&Poin
     }
 }
 
-pub(crate) fn point_span(program: &Program, body: u32, point: u32) -> Span
+pub fn point_span(program: &Program, body: u32, point: u32) -> Span
     ensures { result ≡ spec.point_span (point_at program.now body point) }
 {
     match point_at(program, body, point) {
@@ -65,7 +65,7 @@ pub(crate) fn point_span(program: &Program, body: u32, point: u32) -> Span
 }
 
 /// Where a slot is declared.
-pub(crate) fn owner_span(program: &Program, owner: Option<Owner>) -> Span
+pub fn owner_span(program: &Program, owner: Option<Owner>) -> Span
     ensures { result ≡ spec.owner_span program.now owner }
 {
     match owner {

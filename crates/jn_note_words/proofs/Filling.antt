@@ -4,8 +4,8 @@ use Rattle.std.specs.Prelude.{eqb, replicate, slice_index_or, slice_set}
 use Rattle.std.proofs.lemmas.Bool.{cases_lt, eqb-true, eqb-false, le-ltb, lt-ltb}
 use Rattle.std.proofs.lemmas.List.{length-replicate, get_or-replicate, get_or-set_same, get_or-set_other, get_or_past}
 use Rattle.jn_points.specs.declared.program.Program.{Program}
-use Rattle.jn_notes.specs.declared.owners.Owner.{Owner}
-use Rattle.jn_notes.specs.Owned.{or_owner, first_owner, by_fields, by_methods, owner_of, Filled, AreOwners}
+use Rattle.jn_note_words.specs.declared.owners.Owner.{Owner}
+use Rattle.jn_note_words.specs.Owned.{or_owner, first_owner, by_fields, by_methods, owner_of, Filled, AreOwners}
 
 or_none : (x : Option Owner) → or_owner x None ≡ x
 or_none None = refl

@@ -15,9 +15,9 @@ use Rattle.jn_reasons_law.specs.declared.item.Item.TheVariants.{AtSlot, AtRegist
 use Rattle.jn_reasons_law.specs.declared.item.Place.{Place}
 use Rattle.jn_reasons_law.specs.declared.item.Place.TheVariants.{OfSlot, OfMethod, OfBody, OfPoint}
 use Rattle.jn_reasons_law.specs.declared.item.Step.{Step}
-use Rattle.jn_notes.specs.declared.owners.Owner.{Owner}
-use Rattle.jn_notes.specs.declared.owners.Owner.TheVariants.{OfField, OfParameter, OfReceiver, OfResult}
-use Rattle.jn_notes.specs.Owned.{owner_of}
+use Rattle.jn_note_words.specs.declared.owners.Owner.{Owner}
+use Rattle.jn_note_words.specs.declared.owners.Owner.TheVariants.{OfField, OfParameter, OfReceiver, OfResult}
+use Rattle.jn_note_words.specs.Owned.{owner_of}
 
 -- the text of a name by its number, empty where there is none
 abbrev pub text_at : List (List ℕ) → ℕ → List ℕ

@@ -1,8 +1,8 @@
 //! Steps in words.
 ghost use Rattle.std.specs.Prelude.{◌≡◌, ◌++◌, codes, IfOk, OnOk, None, Some};
 ghost use Rattle.jn_points.specs.Lookup.{field_info, method_at, point_at};
-ghost use Rattle.jn_notes.specs.Owned.{AreOwners};
-ghost use Rattle.jn_notes.specs.Worded as spec;
+ghost use Rattle.jn_note_words.specs.Owned.{AreOwners};
+ghost use Rattle.jn_note_words.specs.Worded as spec;
 
 use crate::owners::{Owner, owner_at};
 use crate::spans::point_at;
@@ -24,7 +24,7 @@ fn text_at(names: &Names, name: NameNo) -> &str
     }
 }
 
-pub(crate) fn field_name<'a>(program: &Program, names: &'a Names, field: u32) -> &'a str
+pub fn field_name<'a>(program: &Program, names: &'a Names, field: u32) -> &'a str
     ensures { result.now ≡ spec.field_name names.entry.now (field_info program.entry.now field) }
 {
     match field_info(program, FieldNo(field)) {
@@ -57,7 +57,7 @@ fn parameter_words(place: usize) -> &'static str
 }
 
 /// Puts a text after the words.
-pub(crate) fn add(words: &mut Vec<u8>, text: &str) -> Result<(), AllocError>
+pub fn add(words: &mut Vec<u8>, text: &str) -> Result<(), AllocError>
     ensures { OnOk result (words.new.items ≡ words.old.items ++ text.now) }
 {
     words.extend_from_slice(text.as_bytes())?;

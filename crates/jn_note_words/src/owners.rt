@@ -1,6 +1,6 @@
 //! Whose slots are whose.
 ghost use Rattle.std.specs.Prelude.{◌≡◌, ◌<◌, ◌^◌, IfOk, cond, eqb, length, None, Some, slice_index_or};
-ghost use Rattle.jn_notes.specs.Owned.{AreOwners, Filled, by_field, by_fields, by_method, by_methods, by_parameters, if_slot};
+ghost use Rattle.jn_note_words.specs.Owned.{AreOwners, Filled, by_field, by_fields, by_method, by_methods, by_parameters, if_slot};
 
 use jn_base::SlotNo;
 use jn_points::{Field, Method, Program};

@@ -1,0 +1,14 @@
+//! What notes are, and the words and places of the steps of a chain.
+//!
+//! [`find_owners`] says whose each slot is, [`step_words`] what a note says of a step, and [`place_span`] where it stands.
+#![tactic(auto)]
+
+pub mod note;
+pub mod owners;
+pub mod spans;
+pub mod words;
+
+pub use note::{Note, Notes};
+pub use owners::{Owner, find_owners, owner_at};
+pub use spans::place_span;
+pub use words::step_words;
