@@ -9,6 +9,7 @@ use Rattle.jn_diag.specs.declared.shown.RowText.{RowText}
 use Rattle.jn_diag.specs.declared.shown.Verdict.{Verdict}
 use Rattle.jn_diag.specs.declared.shown.Verdict.TheVariants.{Accepted, Rejected, Refused as RefusedVerdict}
 use Rattle.jn_front.specs.declared.source.SourceFile.{SourceFile}
+use Rattle.jn_lsp_text.specs.declared.encoding.Encoding.{Encoding}
 use Rattle.jn_note_words.specs.declared.note.Notes.{Notes}
 use Rattle.jn_notes.specs.Noted.{AreNotesOf}
 use Rattle.jn_phase_notes.specs.Phases.{PhaseNotes}
@@ -111,13 +112,13 @@ phase_noted infer files kept rows verdict n notes r v h = record {
 
 -- ---- what is told
 
-pub told_none : (infer : Infer) (last : LastReport) (files : List SourceFile) (told : List Told) → length files ≡ 0 → told ≡ [] → IsTold infer last false files told
-told_none infer last [] told e none = (none, refl)
-told_none infer last (file ∷ files) told e none = absurd (omega (arith, e))
+pub told_none : (infer : Infer) (encoding : Encoding) (last : LastReport) (files : List SourceFile) (told : List Told) → length files ≡ 0 → told ≡ [] → IsTold infer encoding last false files told
+told_none infer encoding last [] told e none = (none, refl)
+told_none infer encoding last (file ∷ files) told e none = absurd (omega (arith, e))
 
-pub told_some : (infer : Infer) (last : LastReport) (came : Bool) (files : List SourceFile) (told : List Told) → 0 < length files → AreTold infer last came files told → IsTold infer last came files told
-told_some infer last came [] told lt are = absurd (omega (arith, lt))
-told_some infer last came (file ∷ files) told lt are = are
+pub told_some : (infer : Infer) (encoding : Encoding) (last : LastReport) (came : Bool) (files : List SourceFile) (told : List Told) → 0 < length files → AreTold infer encoding last came files told → IsTold infer encoding last came files told
+told_some infer encoding last came [] told lt are = absurd (omega (arith, lt))
+told_some infer encoding last came (file ∷ files) told lt are = are
 
 abbrev pub IsRefused : Verdict → Type 0
 IsRefused Accepted = ⊥
@@ -130,18 +131,18 @@ IsByRules (Rejected n) = Unit {0}
 IsByRules (RefusedVerdict n) = ⊥
 
 -- a report that ends before the rules
-pub told_refused : (infer : Infer) (last : LastReport) (files : List SourceFile) (rows of_rows : List Row) (verdict : Verdict) (notes : List Notes) (told : List Told) → AreNoted infer files rows verdict notes → IsRefused verdict → of_rows ≡ rows → told ≡ told_from (unchecked_at last files of_rows notes) 0 files → AreTold infer last false files told
-told_refused infer last files rows of_rows verdict notes told noted refused e is = by_report noted.report noted.found noted.rows_are (subst IsRefused noted.verdict_is refused)
+pub told_refused : (infer : Infer) (encoding : Encoding) (last : LastReport) (files : List SourceFile) (rows of_rows : List Row) (verdict : Verdict) (notes : List Notes) (told : List Told) → AreNoted infer files rows verdict notes → IsRefused verdict → of_rows ≡ rows → told ≡ told_from (unchecked_at encoding last files of_rows notes) 0 files → AreTold infer encoding last false files told
+told_refused infer encoding last files rows of_rows verdict notes told noted refused e is = by_report noted.report noted.found noted.rows_are (subst IsRefused noted.verdict_is refused)
   where
-    by_report : (report : Report) → AreFindings infer files report notes → rows ≡ rows_of report → IsRefused (verdict_of report) → AreTold infer last false files told
-    by_report (Refused rs) found same v = record { report = Refused rs; notes = notes; found = found; comes = refl; are = is ∙ ap (λ xs. told_from (unchecked_at last files xs notes) 0 files) (e ∙ same) }
+    by_report : (report : Report) → AreFindings infer files report notes → rows ≡ rows_of report → IsRefused (verdict_of report) → AreTold infer encoding last false files told
+    by_report (Refused rs) found same v = record { report = Refused rs; notes = notes; found = found; comes = refl; are = is ∙ ap (λ xs. told_from (unchecked_at encoding last files xs notes) 0 files) (e ∙ same) }
     by_report (Checked []) found same v = absurd v
     by_report (Checked (r ∷ rs)) found same v = absurd v
 
 -- one that comes there
-pub told_checked : (infer : Infer) (last : LastReport) (files : List SourceFile) (rows of_rows : List Row) (verdict : Verdict) (notes : List Notes) (told : List Told) → AreNoted infer files rows verdict notes → IsByRules verdict → of_rows ≡ rows → told ≡ told_from (diagnostics_at files of_rows notes) 0 files → AreTold infer last true files told
-told_checked infer last files rows of_rows verdict notes told noted by_rules e is = by_report noted.report noted.found noted.rows_are (subst IsByRules noted.verdict_is by_rules)
+pub told_checked : (infer : Infer) (encoding : Encoding) (last : LastReport) (files : List SourceFile) (rows of_rows : List Row) (verdict : Verdict) (notes : List Notes) (told : List Told) → AreNoted infer files rows verdict notes → IsByRules verdict → of_rows ≡ rows → told ≡ told_from (diagnostics_at encoding files of_rows notes) 0 files → AreTold infer encoding last true files told
+told_checked infer encoding last files rows of_rows verdict notes told noted by_rules e is = by_report noted.report noted.found noted.rows_are (subst IsByRules noted.verdict_is by_rules)
   where
-    by_report : (report : Report) → AreFindings infer files report notes → rows ≡ rows_of report → IsByRules (verdict_of report) → AreTold infer last true files told
+    by_report : (report : Report) → AreFindings infer files report notes → rows ≡ rows_of report → IsByRules (verdict_of report) → AreTold infer encoding last true files told
     by_report (Refused rs) found same v = absurd v
-    by_report (Checked rs) found same v = record { report = Checked rs; notes = notes; found = found; comes = refl; are = is ∙ ap (λ xs. told_from (diagnostics_at files xs notes) 0 files) (e ∙ same) }
+    by_report (Checked rs) found same v = record { report = Checked rs; notes = notes; found = found; comes = refl; are = is ∙ ap (λ xs. told_from (diagnostics_at encoding files xs notes) 0 files) (e ∙ same) }

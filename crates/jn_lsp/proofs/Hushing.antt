@@ -5,6 +5,7 @@ use Rattle.jn_base.specs.declared.infer.Infer.{Infer}
 use Rattle.jn_front.specs.declared.source.SourceFile.{SourceFile}
 use Rattle.jn_lsp_text.specs.declared.choice.Choice.{Choice}
 use Rattle.jn_lsp_text.specs.declared.choice.Choice.TheVariants as choice
+use Rattle.jn_lsp_text.specs.declared.encoding.Encoding.TheVariants.{Utf16}
 use Rattle.jn_lsp_text.specs.declared.reply.Diagnostic.{Diagnostic}
 use Rattle.jn_lsp_text.specs.declared.markup.Markup.TheVariants.{Plain}
 use Rattle.jn_lsp_text.specs.declared.message.Message.{Message}
@@ -47,13 +48,13 @@ module _ (unknown : List (List ℕ)) where
 
 -- ---- a workspace
 
-pub told_known : (workspace : Workspace) (last : LastReport) (came : Bool) (files : List SourceFile) (unknown : List (List ℕ)) (found all told : List Told) → files ≡ files_of workspace → unknown ≡ workspace.unknown → found ≡ all → IsTold workspace.infer last came files all → told ≡ hushed unknown found → AreToldOf workspace last came all told
+pub told_known : (workspace : Workspace) (last : LastReport) (came : Bool) (files : List SourceFile) (unknown : List (List ℕ)) (found all told : List Told) → files ≡ files_of workspace → unknown ≡ workspace.unknown → found ≡ all → IsTold workspace.infer workspace.encoding last came files all → told ≡ hushed unknown found → AreToldOf workspace last came all told
 told_known workspace last came files unknown found all told e f same is h = record {
-  is = subst (λ fs. IsTold workspace.infer last came fs all) e is;
+  is = subst (λ fs. IsTold workspace.infer workspace.encoding last came fs all) e is;
   told_is = h ∙ ap (hushed unknown) same ∙ ap (λ u. hushed u all) f;
 }
 
-pub told_nothing : (infer : Infer) (workspace : Workspace) (last : LastReport) (told : List Told) → workspace ≡ workspace_of infer Plain [] [] [] [] → told ≡ [] → (came : Bool) × (all : List Told) × AreToldOf workspace last came all told
+pub told_nothing : (infer : Infer) (workspace : Workspace) (last : LastReport) (told : List Told) → workspace ≡ workspace_of infer Plain Utf16 [] [] [] [] → told ≡ [] → (came : Bool) × (all : List Told) × AreToldOf workspace last came all told
 told_nothing infer workspace last told e none = (false, [], subst (λ w. AreToldOf w last false [] told) (sym e) (record { is = (refl, refl); told_is = none }))
 
 -- ---- warnings

@@ -4,6 +4,7 @@ use Rattle.std.specs.Prelude.{◌⊎◌}
 use Rattle.std.proofs.lemmas.Slice.Eq.{bytes_eq-Decides}
 use Rattle.jn_base.specs.declared.infer.Infer.{Infer}
 use Rattle.jn_front.specs.declared.source.SourceFile.{SourceFile}
+use Rattle.jn_lsp_text.specs.declared.encoding.Encoding.{Encoding}
 use Rattle.jn_lsp_text.specs.declared.reply.Diagnostic.{Diagnostic}
 use Rattle.jn_lsp_text.specs.declared.reply.Reply.{Reply}
 use Rattle.jn_lsp_text.specs.declared.reply.Reply.TheVariants.{Publish}
@@ -30,9 +31,9 @@ pub own_told : (diagnostics : ℕ → List Diagnostic) (at : ℕ) (files : List 
 own_told diagnostics at [] own = tt
 own_told diagnostics at (file ∷ files) own = (own_from diagnostics (at + 1) file.name files ∙ own.0, own_told diagnostics (at + 1) files own.1)
 
-pub told_own : (infer : Infer) (last : LastReport) (came : Bool) (files : List SourceFile) (told : List Told) → AreOwn files → IsTold infer last came files told → AreOwnTold told
-told_own infer last came [] told own is = subst AreOwnTold (sym is.0) tt
-told_own infer last came (file ∷ files) told own is = subst AreOwnTold (sym is.are) (own_told (reported_at last (file ∷ files) is.report is.notes) 0 (file ∷ files) own)
+pub told_own : (infer : Infer) (encoding : Encoding) (last : LastReport) (came : Bool) (files : List SourceFile) (told : List Told) → AreOwn files → IsTold infer encoding last came files told → AreOwnTold told
+told_own infer encoding last came [] told own is = subst AreOwnTold (sym is.0) tt
+told_own infer encoding last came (file ∷ files) told own is = subst AreOwnTold (sym is.are) (own_told (reported_at encoding last (file ∷ files) is.report is.notes) 0 (file ∷ files) own)
 
 abbrev pub AreEmpty : List Told → Type 0
 AreEmpty [] = Unit {0}

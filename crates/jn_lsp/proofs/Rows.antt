@@ -5,6 +5,7 @@ use Rattle.std.specs.List.{position_from}
 use Rattle.std.proofs.lemmas.List.{drop_more}
 use Rattle.jn_base.specs.declared.place.Row.{Row}
 use Rattle.jn_front.specs.declared.source.SourceFile.{SourceFile}
+use Rattle.jn_lsp_text.specs.declared.encoding.Encoding.{Encoding}
 use Rattle.jn_lsp_text.specs.declared.reply.Diagnostic.{Diagnostic}
 use Rattle.jn_note_words.specs.declared.note.Note.{Note}
 use Rattle.jn_note_words.specs.declared.note.Notes.{Notes}
@@ -21,18 +22,18 @@ behind_suc (first ∷ notes) (suc i) = behind_suc notes i
 behind_drop : (notes : List Notes) (i : ℕ) → notes_behind (drop i notes) ≡ drop (i + 1) notes
 behind_drop notes i = let e : suc i ≡ i + 1 = omega arith in behind_suc notes i ∙ ap (λ n. drop n notes) e
 
-module _ (files : List SourceFile) (rows : List Row) (notes : List Notes) where
+module _ (encoding : Encoding) (files : List SourceFile) (rows : List Row) (notes : List Notes) where
   -- the diagnostics from a row on: the row's, and those after
-  opened : (file i : ℕ) (d : Row) → i < length rows → diagnostics_at files (drop i rows) (drop i notes) file ≡ diagnostics_of_row files (get_or rows i d) (shown_at notes i) file ++ diagnostics_at files (drop (i + 1) rows) (drop (i + 1) notes) file
+  opened : (file i : ℕ) (d : Row) → i < length rows → diagnostics_at encoding files (drop i rows) (drop i notes) file ≡ diagnostics_of_row encoding files (get_or rows i d) (shown_at notes i) file ++ diagnostics_at encoding files (drop (i + 1) rows) (drop (i + 1) notes) file
   opened file i d lt =
-      ap (λ rs. diagnostics_at files rs (drop i notes) file) (drop_more rows i d lt)
-      ∙ ap (λ ns. diagnostics_of_row files (get_or rows i d) (shown_at notes i) file ++ diagnostics_at files (drop (i + 1) rows) ns file) (behind_drop notes i)
+      ap (λ rs. diagnostics_at encoding files rs (drop i notes) file) (drop_more rows i d lt)
+      ∙ ap (λ ns. diagnostics_of_row encoding files (get_or rows i d) (shown_at notes i) file ++ diagnostics_at encoding files (drop (i + 1) rows) ns file) (behind_drop notes i)
 
-  pub row_more : (file i : ℕ) (item : Row) (shown : List Note) (found more : List Diagnostic) → i < length rows → item ≡ get_or rows i item → shown ≡ shown_at notes i → found ++ diagnostics_at files (drop i rows) (drop i notes) file ≡ diagnostics_at files rows notes file → more ≡ found ++ diagnostics_of_row files item shown file → more ++ diagnostics_at files (drop (i + 1) rows) (drop (i + 1) notes) file ≡ diagnostics_at files rows notes file
+  pub row_more : (file i : ℕ) (item : Row) (shown : List Note) (found more : List Diagnostic) → i < length rows → item ≡ get_or rows i item → shown ≡ shown_at notes i → found ++ diagnostics_at encoding files (drop i rows) (drop i notes) file ≡ diagnostics_at encoding files rows notes file → more ≡ found ++ diagnostics_of_row encoding files item shown file → more ++ diagnostics_at encoding files (drop (i + 1) rows) (drop (i + 1) notes) file ≡ diagnostics_at encoding files rows notes file
   row_more file i item shown found more lt is told was e =
-      let rest = diagnostics_at files (drop (i + 1) rows) (drop (i + 1) notes) file in
-      let here = diagnostics_of_row files (get_or rows i item) (shown_at notes i) file in
-      let same : diagnostics_of_row files item shown file ≡ here = ap (λ r. diagnostics_of_row files r shown file) is ∙ ap (λ ns. diagnostics_of_row files (get_or rows i item) ns file) told in
+      let rest = diagnostics_at encoding files (drop (i + 1) rows) (drop (i + 1) notes) file in
+      let here = diagnostics_of_row encoding files (get_or rows i item) (shown_at notes i) file in
+      let same : diagnostics_of_row encoding files item shown file ≡ here = ap (λ r. diagnostics_of_row encoding files r shown file) is ∙ ap (λ ns. diagnostics_of_row encoding files (get_or rows i item) ns file) told in
       ap (λ l. l ++ rest) (e ∙ ap (λ l. found ++ l) same) ∙ append_assoc found here rest ∙ ap (λ l. found ++ l) (sym (opened file i item lt)) ∙ was
 
 -- ---- files

@@ -5,6 +5,7 @@ use Rattle.jn_base.specs.declared.infer.Infer.{Infer}
 use Rattle.jn_command.specs.declared.report.Report.{Report}
 use Rattle.jn_command.specs.declared.report.Report.TheVariants.{Refused, Checked}
 use Rattle.jn_front.specs.declared.source.SourceFile.{SourceFile}
+use Rattle.jn_lsp_text.specs.declared.encoding.Encoding.{Encoding}
 use Rattle.jn_lsp_text.specs.declared.id.Id.{Id}
 use Rattle.jn_lsp_text.specs.declared.markup.Markup.{Markup}
 use Rattle.jn_lsp_text.specs.declared.message.Message.{Message}
@@ -44,7 +45,7 @@ module _ (name : List ℕ) (last : List Diagnostic) where
   refusal_silent failure (Some id) = refl
 
   waiting_silent : (message : Message) → IsSilent (waiting_answer message)
-  waiting_silent (Initialize id folders infer files exclude markup) = refl
+  waiting_silent (Initialize id folders infer files exclude markup encoding) = refl
   waiting_silent Initialized = refl
   waiting_silent (DidOpen named version text) = refl
   waiting_silent (DidChange named version changes) = refl
@@ -66,7 +67,7 @@ module _ (name : List ℕ) (last : List Diagnostic) where
   waiting_silent TooLarge = refl
 
   serving_silent : (markup : Markup) (actions : List Action) (hints : List Hint) (hover : Option Hover) (message : Message) → IsSilent (serving_answer markup actions hints hover message)
-  serving_silent markup actions hints hover (Initialize id folders infer files exclude other) = refl
+  serving_silent markup actions hints hover (Initialize id folders infer files exclude other encoding) = refl
   serving_silent markup actions hints hover Initialized = refl
   serving_silent markup actions hints hover (DidOpen named version text) = refl
   serving_silent markup actions hints hover (DidChange named version changes) = refl
@@ -88,7 +89,7 @@ module _ (name : List ℕ) (last : List Diagnostic) where
   serving_silent markup actions hints hover TooLarge = refl
 
   late_silent : (message : Message) → IsSilent (late_answer message)
-  late_silent (Initialize id folders infer files exclude markup) = refl
+  late_silent (Initialize id folders infer files exclude markup encoding) = refl
   late_silent Initialized = refl
   late_silent (DidOpen named version text) = refl
   late_silent (DidChange named version changes) = refl
@@ -128,18 +129,18 @@ module _ (name : List ℕ) (last : List Diagnostic) where
 -- ---- one event
 
 -- what is told is the same, whichever report came to the rules last, where this one comes there; else the last one is as it was
-told_after : (infer : Infer) (before : LastReport) (came : Bool) (files : List SourceFile) (told : List Told) → IsTold infer before came files told → IsTold infer (next_last came files told before) came files told
-told_after infer before false files told is = is
-told_after infer before true [] told is = is
-told_after infer before true (file ∷ files) told is = by_report is.report is.notes is.found is.comes is.are
+told_after : (infer : Infer) (encoding : Encoding) (before : LastReport) (came : Bool) (files : List SourceFile) (told : List Told) → IsTold infer encoding before came files told → IsTold infer encoding (next_last came files told before) came files told
+told_after infer encoding before false files told is = is
+told_after infer encoding before true [] told is = is
+told_after infer encoding before true (file ∷ files) told is = by_report is.report is.notes is.found is.comes is.are
   where
-    by_report : (report : Report) (notes : List Notes) → AreFindings infer (file ∷ files) report notes → true ≡ comes_to_rules report → told ≡ told_from (reported_at before (file ∷ files) report notes) 0 (file ∷ files) → AreTold infer (next_last true (file ∷ files) told before) true (file ∷ files) told
+    by_report : (report : Report) (notes : List Notes) → AreFindings infer (file ∷ files) report notes → true ≡ comes_to_rules report → told ≡ told_from (reported_at encoding before (file ∷ files) report notes) 0 (file ∷ files) → AreTold infer encoding (next_last true (file ∷ files) told before) true (file ∷ files) told
     by_report (Refused rows) notes found comes are = true_false true refl comes
     by_report (Checked rows) notes found comes are = record { report = Checked rows; notes = notes; found = found; comes = refl; are = are }
 
 told_anew : (workspace : Workspace) (before after : LastReport) (told : List Told) (anew : IsToldAnew workspace before after told) → AreToldOf workspace after anew.came anew.all told
 told_anew workspace before after told anew = record {
-  is = subst (λ l. IsTold workspace.infer l anew.came (files_of workspace) anew.all) (sym anew.keeps) (told_after workspace.infer before anew.came (files_of workspace) anew.all anew.are.is);
+  is = subst (λ l. IsTold workspace.infer workspace.encoding l anew.came (files_of workspace) anew.all) (sym anew.keeps) (told_after workspace.infer workspace.encoding before anew.came (files_of workspace) anew.all anew.are.is);
   told_is = anew.are.told_is;
 }
 
@@ -155,7 +156,7 @@ informed before after event replies takes is = informed_behind (opened_by event)
 news_last : (opened : Option (List ℕ)) (name : List ℕ) (moved : Option Workspace) (before after : ServerOf) (news : List Reply) → IsRetold opened moved before news after → last_published name (told_of before.told name) news ≡ told_of after.told name
 news_last opened name None before after news (nothing, same, told, last) = ap (last_published name (told_of before.told name)) nothing ∙ ap (λ t. told_of t name) (sym told)
 news_last opened name (Some workspace) before after news (is, anew, announces) =
-    let own = own_hushed workspace.unknown anew.all (told_own workspace.infer before.last anew.came (files_of workspace) anew.all (stand_own workspace.disk workspace.documents) anew.are.is) in
+    let own = own_hushed workspace.unknown anew.all (told_own workspace.infer workspace.encoding before.last anew.came (files_of workspace) anew.all (stand_own workspace.disk workspace.documents) anew.are.is) in
     announced opened workspace.versions before.told after.told news name (subst AreOwnTold (sym anew.are.told_is) own) announces
 
 event_last : (name : List ℕ) (before after : ServerOf) (event : Event) (replies : List Reply) → Takes before event replies after → last_published name (told_of before.told name) replies ≡ told_of after.told name
@@ -209,9 +210,9 @@ all_last name (event ∷ events) before after replies (first, rest, mid, e, take
     ∙ ap (λ l. last_published name l rest) (event_last name before mid event first takes)
     ∙ all_last name events mid after rest serves
 
-as_reported : (infer : Infer) (last : LastReport) (came : Bool) (unknown : List (List ℕ)) (files : List SourceFile) (all told : List Told) (published : List ℕ → List Diagnostic) → IsTold infer last came files all → told ≡ hushed unknown all → ((name : List ℕ) → published name ≡ told_of told name) → ArePublishedLast infer last unknown files published
-as_reported infer last came unknown [] all told published is e same = λ name. same name ∙ ap (λ t. told_of t name) (e ∙ ap (hushed unknown) is.0)
-as_reported infer last came unknown (file ∷ files) all told published is e same = (
+as_reported : (infer : Infer) (encoding : Encoding) (last : LastReport) (came : Bool) (unknown : List (List ℕ)) (files : List SourceFile) (all told : List Told) (published : List ℕ → List Diagnostic) → IsTold infer encoding last came files all → told ≡ hushed unknown all → ((name : List ℕ) → published name ≡ told_of told name) → ArePublishedLast infer encoding last unknown files published
+as_reported infer encoding last came unknown [] all told published is e same = λ name. same name ∙ ap (λ t. told_of t name) (e ∙ ap (hushed unknown) is.0)
+as_reported infer encoding last came unknown (file ∷ files) all told published is e same = (
   is.report,
   is.notes,
   is.found,
@@ -219,10 +220,10 @@ as_reported infer last came unknown (file ∷ files) all told published is e sam
       same name
       ∙ ap (λ t. told_of t name) e
       ∙ hushed_told unknown all name
-      ∙ ap (unless_unknown unknown name) (ap (λ t. told_of t name) is.are ∙ told_named (reported_at last (file ∷ files) is.report is.notes) (file ∷ files) name),
+      ∙ ap (unless_unknown unknown name) (ap (λ t. told_of t name) is.are ∙ told_named (reported_at encoding last (file ∷ files) is.report is.notes) (file ∷ files) name),
 )
 
 pub up_to_date : (infer : Infer) (events : List Event) (replies : List Reply) (after : ServerOf) → Serves (new_server infer) events replies after → IsUpToDate after replies
 up_to_date infer events replies after serves =
     let informed = all_informed events (new_server infer) after replies serves (false, [], record { is = (refl, refl); told_is = refl }) in
-    as_reported after.workspace.infer after.last informed.0 after.workspace.unknown (files_of after.workspace) informed.1 after.told (λ name. last_published name [] replies) informed.2.is informed.2.told_is (λ name. all_last name events (new_server infer) after replies serves)
+    as_reported after.workspace.infer after.workspace.encoding after.last informed.0 after.workspace.unknown (files_of after.workspace) informed.1 after.told (λ name. last_published name [] replies) informed.2.is informed.2.told_is (λ name. all_last name events (new_server infer) after replies serves)

@@ -3,6 +3,7 @@ use Rattle.std.specs.Prelude.{ℕ, ◌≡◌, Bool, List, [], ◌∷◌, Option,
 use Rattle.std.specs.List.{ends_with}
 use Rattle.jn_front.specs.declared.source.SourceFile.{SourceFile}
 use Rattle.jn_lsp_text.specs.Ranges.{IsReplaced}
+use Rattle.jn_lsp_text.specs.declared.encoding.Encoding.{Encoding}
 use Rattle.jn_lsp_text.specs.declared.message.Change.{Change}
 use Rattle.jn_lsp_text.specs.declared.message.Change.TheVariants.{Whole, Part}
 use Rattle.jn_lsp_text.specs.declared.message.Message.{Message}
@@ -14,14 +15,14 @@ use Rattle.jn_lsp.specs.Stand.{document_of}
 -- ---- texts
 
 -- a text after a change
-abbrev pub IsChanged : Change → List ℕ → List ℕ → Type 0
-IsChanged (Whole new) text made = made ≡ new
-IsChanged (Part range new) text made = IsReplaced text range new made
+abbrev pub IsChanged : Encoding → Change → List ℕ → List ℕ → Type 0
+IsChanged encoding (Whole new) text made = made ≡ new
+IsChanged encoding (Part range new) text made = IsReplaced encoding text range new made
 
 -- a text after changes, each of the text after the one before
-abbrev pub AreChanged : List Change → List ℕ → List ℕ → Type 0
-AreChanged [] text made = made ≡ text
-AreChanged (change ∷ changes) text made = (mid : List ℕ) × IsChanged change text mid × AreChanged changes mid made
+abbrev pub AreChanged : Encoding → List Change → List ℕ → List ℕ → Type 0
+AreChanged encoding [] text made = made ≡ text
+AreChanged encoding (change ∷ changes) text made = (mid : List ℕ) × IsChanged encoding change text mid × AreChanged encoding changes mid made
 
 -- ---- documents
 
@@ -38,9 +39,9 @@ abbrev pub known_document : List (List ℕ) → List ℕ → List SourceFile →
 known_document unknown name documents = if is_among unknown name then None else document_of name documents
 
 -- the open document gets the text after the changes; a document that isn't open, or whose text isn't known, has none
-abbrev pub IsTyped : List ℕ → List Change → List SourceFile → Option SourceFile → Option (List SourceFile) → Type 0
-IsTyped name changes documents None after = after ≡ None
-IsTyped name changes documents (Some document) after = (text : List ℕ) × AreChanged changes document.bytes text × (after ≡ Some (with_file name text documents))
+abbrev pub IsTyped : Encoding → List ℕ → List Change → List SourceFile → Option SourceFile → Option (List SourceFile) → Type 0
+IsTyped encoding name changes documents None after = after ≡ None
+IsTyped encoding name changes documents (Some document) after = (text : List ℕ) × AreChanged encoding changes document.bytes text × (after ≡ Some (with_file name text documents))
 
 abbrev pub closed_as : List ℕ → List SourceFile → Option SourceFile → Option (List SourceFile)
 closed_as name documents None = None
@@ -51,24 +52,24 @@ abbrev pub closed : List ℕ → List SourceFile → Option (List SourceFile)
 closed name documents = closed_as name documents (document_of name documents)
 
 -- the open documents after a message, in the order in which they were opened; none where it doesn't change them
-abbrev pub AreEdited : List (List ℕ) → Message → List SourceFile → Option (List SourceFile) → Type 0
-AreEdited unknown (DidOpen name version text) documents after = after ≡ opened name text documents
-AreEdited unknown (DidChange name version changes) documents after = IsTyped name changes documents (known_document unknown name documents) after
-AreEdited unknown (DidClose name) documents after = after ≡ closed name documents
-AreEdited unknown (Initialize id folders infer files exclude markup) documents after = after ≡ None
-AreEdited unknown Initialized documents after = after ≡ None
-AreEdited unknown (DidSave name) documents after = after ≡ None
-AreEdited unknown WatchedFiles documents after = after ≡ None
-AreEdited unknown (CodeAction id name range) documents after = after ≡ None
-AreEdited unknown (InlayHint id name range) documents after = after ≡ None
-AreEdited unknown (Hover id name position) documents after = after ≡ None
-AreEdited unknown (Shutdown id) documents after = after ≡ None
-AreEdited unknown Exit documents after = after ≡ None
-AreEdited unknown Ignored documents after = after ≡ None
-AreEdited unknown (Unknown id) documents after = after ≡ None
-AreEdited unknown (BadDocument name) documents after = after ≡ None
-AreEdited unknown (BadParams id) documents after = after ≡ None
-AreEdited unknown NoMessage documents after = after ≡ None
-AreEdited unknown NoJson documents after = after ≡ None
-AreEdited unknown BadHeader documents after = after ≡ None
-AreEdited unknown TooLarge documents after = after ≡ None
+abbrev pub AreEdited : Encoding → List (List ℕ) → Message → List SourceFile → Option (List SourceFile) → Type 0
+AreEdited encoding unknown (DidOpen name version text) documents after = after ≡ opened name text documents
+AreEdited encoding unknown (DidChange name version changes) documents after = IsTyped encoding name changes documents (known_document unknown name documents) after
+AreEdited encoding unknown (DidClose name) documents after = after ≡ closed name documents
+AreEdited encoding unknown (Initialize id folders infer files exclude markup other) documents after = after ≡ None
+AreEdited encoding unknown Initialized documents after = after ≡ None
+AreEdited encoding unknown (DidSave name) documents after = after ≡ None
+AreEdited encoding unknown WatchedFiles documents after = after ≡ None
+AreEdited encoding unknown (CodeAction id name range) documents after = after ≡ None
+AreEdited encoding unknown (InlayHint id name range) documents after = after ≡ None
+AreEdited encoding unknown (Hover id name position) documents after = after ≡ None
+AreEdited encoding unknown (Shutdown id) documents after = after ≡ None
+AreEdited encoding unknown Exit documents after = after ≡ None
+AreEdited encoding unknown Ignored documents after = after ≡ None
+AreEdited encoding unknown (Unknown id) documents after = after ≡ None
+AreEdited encoding unknown (BadDocument name) documents after = after ≡ None
+AreEdited encoding unknown (BadParams id) documents after = after ≡ None
+AreEdited encoding unknown NoMessage documents after = after ≡ None
+AreEdited encoding unknown NoJson documents after = after ≡ None
+AreEdited encoding unknown BadHeader documents after = after ≡ None
+AreEdited encoding unknown TooLarge documents after = after ≡ None

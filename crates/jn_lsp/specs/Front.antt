@@ -2,6 +2,7 @@
 use Rattle.std.specs.Prelude.{ℕ, ◌+◌, ◌==◌, ◌||◌, Bool, true, false, List, [], ◌∷◌, if◌then◌else◌}
 use Rattle.jn_base.specs.Place.{is_line_end}
 use Rattle.jn_lsp_text.specs.Ranges.{range_at}
+use Rattle.jn_lsp_text.specs.declared.encoding.Encoding.{Encoding}
 use Rattle.jn_lsp_text.specs.declared.range.Range.{Range}
 use Rattle.jn_lsp.specs.declared.front.Gap.{Gap}
 use Rattle.jn_lsp.specs.declared.front.Gap.TheVariants.{Blank, Slash, Line, Block, Star, Token}
@@ -33,5 +34,5 @@ before_token gap [] = 0
 before_token gap (byte ∷ bytes) = if is_token (led gap byte) then 0 else 1 + before_token (led gap byte) bytes
 
 -- the place of a text's first token, or of its end
-abbrev pub front : List ℕ → Range
-front text = let at = before_token Blank text in range_at text at at
+abbrev pub front : Encoding → List ℕ → Range
+front encoding text = let at = before_token Blank text in range_at encoding text at at

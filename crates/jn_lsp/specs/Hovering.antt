@@ -3,6 +3,7 @@ use Rattle.std.specs.Prelude.{ℕ, ◌≡◌, Bool, true, false, List, Option, N
 use Rattle.jn_base.specs.declared.infer.Infer.{Infer}
 use Rattle.jn_front.specs.declared.source.SourceFile.{SourceFile}
 use Rattle.jn_lsp_hover.specs.Hovered.{IsHover}
+use Rattle.jn_lsp_text.specs.declared.encoding.Encoding.{Encoding}
 use Rattle.jn_lsp_text.specs.declared.position.Position.{Position}
 use Rattle.jn_lsp_text.specs.declared.message.Message.{Message}
 use Rattle.jn_lsp_text.specs.declared.message.Message.TheVariants.{Hover as HoverAsked}
@@ -11,11 +12,11 @@ use Rattle.jn_lsp.specs.declared.phase.Phase.{Phase}
 use Rattle.jn_lsp.specs.declared.phase.Phase.TheVariants.{Serving}
 use Rattle.jn_lsp.specs.Names.{is_empty}
 
-module _ (infer : Infer) where
+module _ (infer : Infer) (encoding : Encoding) where
   -- what is shown of the files, where all texts are known; else nothing, since it would stand at a wrong place
   abbrev pub IsHoverIf : Bool → List SourceFile → List ℕ → Position → Option Hover → Type 0
   IsHoverIf false files name position hover = hover ≡ None
-  IsHoverIf true files name position hover = IsHover infer files name position hover
+  IsHoverIf true files name position hover = IsHover infer encoding files name position hover
 
   -- that for a request of it; other messages have none
   abbrev pub IsHoverFor : List (List ℕ) → List SourceFile → Message → Option Hover → Type 0
@@ -23,6 +24,6 @@ module _ (infer : Infer) where
   IsHoverFor unknown files other hover = hover ≡ None
 
 -- it is shown only while the server serves
-abbrev pub IsHoverIn : Phase → Infer → List (List ℕ) → List SourceFile → Message → Option Hover → Type 0
-IsHoverIn Serving infer unknown files message hover = IsHoverFor infer unknown files message hover
-IsHoverIn _ _ _ _ _ hover = hover ≡ None
+abbrev pub IsHoverIn : Phase → Infer → Encoding → List (List ℕ) → List SourceFile → Message → Option Hover → Type 0
+IsHoverIn Serving infer encoding unknown files message hover = IsHoverFor infer encoding unknown files message hover
+IsHoverIn _ _ _ _ _ _ hover = hover ≡ None

@@ -59,7 +59,7 @@ module _ (opened : Option (List ℕ)) (versions : List Version) (before : List T
 -- what is told of a name after a reply
 abbrev pub published : List ℕ → List Diagnostic → Reply → List Diagnostic
 published name before (Publish other version diagnostics) = if bytes_eq other name then diagnostics else before
-published name before (Capabilities id) = before
+published name before (Capabilities id encoding) = before
 published name before (Done id) = before
 published name before (Refusal id failure) = before
 published name before (Show words) = before

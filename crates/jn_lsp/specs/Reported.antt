@@ -13,6 +13,7 @@ use Rattle.jn_command.specs.Reports.{rows_of, verdict_of}
 use Rattle.jn_diag.specs.declared.shown.Verdict.{Verdict}
 use Rattle.jn_front.specs.declared.source.SourceFile.{SourceFile}
 use Rattle.jn_lsp_hover.specs.Related.{home_of, no_file, range_in}
+use Rattle.jn_lsp_text.specs.declared.encoding.Encoding.{Encoding}
 use Rattle.jn_lsp_text.specs.declared.reply.Diagnostic.{Diagnostic}
 use Rattle.jn_lsp_text.specs.declared.reply.Related.{Related}
 use Rattle.jn_lsp_text.specs.declared.reply.Said.TheVariants.{Unchecked}
@@ -66,17 +67,17 @@ abbrev pub why : List SourceFile → Row → List ℕ
 why files row = codes "not checked since " ++ (home_of files row.span).name ++ codes " " ++ wrong row.code ++ codes ": " ++ spot files row
 
 -- the place of a row, with what is wrong there
-abbrev pub there : List SourceFile → Row → Related
-there files row = record { name = (home_of files row.span).name; range = range_in files row.span; words = code_message row.code }
+abbrev pub there : Encoding → List SourceFile → Row → Related
+there encoding files row = record { name = (home_of files row.span).name; range = range_in encoding files row.span; words = code_message row.code }
 
 -- at a file's first token: that it isn't checked, since the report has this row
-abbrev pub unchecked : List SourceFile → Row → SourceFile → Diagnostic
-unchecked files row file = record { range = front file.bytes; said = Unchecked (why files row); related = there files row ∷ [] }
+abbrev pub unchecked : Encoding → List SourceFile → Row → SourceFile → Diagnostic
+unchecked encoding files row file = record { range = front encoding file.bytes; said = Unchecked (why files row); related = there encoding files row ∷ [] }
 
 -- the same of the first of these rows
-abbrev pub unchecked_by : List SourceFile → List Row → SourceFile → List Diagnostic
-unchecked_by files [] file = []
-unchecked_by files (row ∷ rows) file = unchecked files row file ∷ []
+abbrev pub unchecked_by : Encoding → List SourceFile → List Row → SourceFile → List Diagnostic
+unchecked_by encoding files [] file = []
+unchecked_by encoding files (row ∷ rows) file = unchecked encoding files row file ∷ []
 
 -- ---- what is told
 
@@ -86,15 +87,15 @@ or_else (first ∷ rest) other = first ∷ rest
 
 -- of the file of a number, where the report is these rows before the rules, with these notes: its rows; where it has none, what was told of its text as
 -- it is, and why it isn't checked
-abbrev pub unchecked_at : LastReport → List SourceFile → List Row → List Notes → ℕ → List Diagnostic
-unchecked_at last files rows notes at =
+abbrev pub unchecked_at : Encoding → LastReport → List SourceFile → List Row → List Notes → ℕ → List Diagnostic
+unchecked_at encoding last files rows notes at =
     let file = slice_index_or files at no_file in
-    or_else (diagnostics_at files rows notes at) (kept_of last file ++ unchecked_by files rows file)
+    or_else (diagnostics_at encoding files rows notes at) (kept_of last file ++ unchecked_by encoding files rows file)
 
 -- of the file of a number, by the report of the files
-abbrev pub reported_at : LastReport → List SourceFile → Report → List Notes → ℕ → List Diagnostic
-reported_at last files (Refused rows) notes at = unchecked_at last files rows notes at
-reported_at last files (Checked rows) notes at = diagnostics_at files rows notes at
+abbrev pub reported_at : Encoding → LastReport → List SourceFile → Report → List Notes → ℕ → List Diagnostic
+reported_at encoding last files (Refused rows) notes at = unchecked_at encoding last files rows notes at
+reported_at encoding last files (Checked rows) notes at = diagnostics_at encoding files rows notes at
 
 -- ---- reports
 
@@ -121,17 +122,17 @@ comes_to_rules (Refused rows) = false
 comes_to_rules (Checked rows) = true
 
 -- of each file, in their order, what the files' report says after this last one that came to the rules; and whether it comes there itself
-pub record AreTold (infer : Infer) (last : LastReport) (came : Bool) (files : List SourceFile) (told : List Told) : Type 0 where
+pub record AreTold (infer : Infer) (encoding : Encoding) (last : LastReport) (came : Bool) (files : List SourceFile) (told : List Told) : Type 0 where
   pub report : Report
   pub notes : List Notes
   pub found : AreFindings infer files report notes
   pub comes : came ≡ comes_to_rules report
-  pub are : told ≡ told_from (reported_at last files report notes) 0 files
+  pub are : told ≡ told_from (reported_at encoding last files report notes) 0 files
 
 -- of no files nothing
-abbrev pub IsTold : Infer → LastReport → Bool → List SourceFile → List Told → Type 0
-IsTold infer last came [] told = (told ≡ []) × (came ≡ false)
-IsTold infer last came (file ∷ files) told = AreTold infer last came (file ∷ files) told
+abbrev pub IsTold : Infer → Encoding → LastReport → Bool → List SourceFile → List Told → Type 0
+IsTold infer encoding last came [] told = (told ≡ []) × (came ≡ false)
+IsTold infer encoding last came (file ∷ files) told = AreTold infer encoding last came (file ∷ files) told
 
 -- the last report that came to the rules, after one that told this of these files
 abbrev pub next_last : Bool → List SourceFile → List Told → LastReport → LastReport

@@ -11,7 +11,7 @@ use Rattle.jn_lsp.specs.declared.event.Event.TheVariants.{Folder, Message as Mes
 
 -- the id of a request; a notification has none, nor what can't be read
 abbrev pub id_asked : Message → Option Id
-id_asked (Initialize id folders infer files exclude markup) = Some id
+id_asked (Initialize id folders infer files exclude markup encoding) = Some id
 id_asked (CodeAction id name range) = Some id
 id_asked (InlayHint id name range) = Some id
 id_asked (Hover id name position) = Some id
@@ -22,7 +22,7 @@ id_asked _ = None
 
 -- the id of the request that a reply answers; a notification has none, nor the refusal of what can't be read
 abbrev pub id_answered : Reply → Option Id
-id_answered (Capabilities id) = Some id
+id_answered (Capabilities id encoding) = Some id
 id_answered (Done id) = Some id
 id_answered (Refusal id failure) = id
 id_answered (Actions id actions) = Some id

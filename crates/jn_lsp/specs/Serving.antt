@@ -7,6 +7,8 @@ use Rattle.jn_front.specs.declared.source.SourceFile.{SourceFile}
 use Rattle.jn_lsp_actions.specs.Asking.{meets}
 use Rattle.jn_lsp_actions.specs.Offered.{AreActions}
 use Rattle.jn_lsp_text.specs.Choices.{chosen}
+use Rattle.jn_lsp_text.specs.declared.encoding.Encoding.{Encoding}
+use Rattle.jn_lsp_text.specs.declared.encoding.Encoding.TheVariants.{Utf16}
 use Rattle.jn_lsp_text.specs.declared.range.Range.{Range}
 use Rattle.jn_lsp_text.specs.declared.id.Id.{Id}
 use Rattle.jn_lsp_text.specs.declared.markup.Markup.{Markup}
@@ -49,7 +51,7 @@ unread NoMessage = Some Request
 unread TooLarge = Some Request
 unread NoJson = Some Parse
 unread BadHeader = Some Parse
-unread (Initialize id folders infer files exclude markup) = None
+unread (Initialize id folders infer files exclude markup encoding) = None
 unread Initialized = None
 unread (DidOpen name version text) = None
 unread (DidChange name version changes) = None
@@ -76,7 +78,7 @@ nameless (Some failure) = Some (Refusal None failure)
 
 -- before `initialize` no other request is served
 abbrev pub waiting_answer : Message → Option Reply
-waiting_answer (Initialize id folders infer files exclude markup) = Some (Capabilities id)
+waiting_answer (Initialize id folders infer files exclude markup encoding) = Some (Capabilities id encoding)
 waiting_answer (CodeAction id name range) = refusal NotInitialized (Some id)
 waiting_answer (InlayHint id name range) = refusal NotInitialized (Some id)
 waiting_answer (HoverAsked id name position) = refusal NotInitialized (Some id)
@@ -87,7 +89,7 @@ waiting_answer other = nameless (unread other)
 
 -- a second `initialize` is refused, and these are the actions, the hints and what is shown at a position, for requests of them
 abbrev pub serving_answer : Markup → List Action → List Hint → Option Hover → Message → Option Reply
-serving_answer markup actions hints hover (Initialize id folders infer files exclude other) = refusal Request (Some id)
+serving_answer markup actions hints hover (Initialize id folders infer files exclude other encoding) = refusal Request (Some id)
 serving_answer markup actions hints hover (CodeAction id name range) = Some (Actions id actions)
 serving_answer markup actions hints hover (InlayHint id name range) = Some (Hints id hints)
 serving_answer markup actions hints hover (HoverAsked id name position) = Some (Hovered id markup hover)
@@ -98,7 +100,7 @@ serving_answer markup actions hints hover other = nameless (unread other)
 
 -- after `shutdown` every request is refused
 abbrev pub late_answer : Message → Option Reply
-late_answer (Initialize id folders infer files exclude markup) = refusal Request (Some id)
+late_answer (Initialize id folders infer files exclude markup encoding) = refusal Request (Some id)
 late_answer (CodeAction id name range) = refusal Request (Some id)
 late_answer (InlayHint id name range) = refusal Request (Some id)
 late_answer (HoverAsked id name position) = refusal Request (Some id)
@@ -115,7 +117,7 @@ answer_of markup actions hints hover ShutDown message = late_answer message
 answer_of markup actions hints hover (Exited in_order) _ = None
 
 abbrev pub phase_behind : Phase → Message → Phase
-phase_behind Waiting (Initialize id folders infer files exclude markup) = Serving
+phase_behind Waiting (Initialize id folders infer files exclude markup encoding) = Serving
 phase_behind Waiting Exit = Exited false
 phase_behind Waiting _ = Waiting
 phase_behind Serving (Shutdown id) = ShutDown
@@ -139,22 +141,22 @@ abbrev pub next_phase : Phase → Event → Phase
 next_phase phase (MessageEvent message) = phase_behind phase message
 next_phase phase (Folder files) = phase
 
-abbrev pub workspace_of : Infer → Markup → List SourceFile → List SourceFile → List (List ℕ) → List Version → Workspace
-workspace_of infer markup disk documents unknown versions = record { infer = infer; markup = markup; disk = disk; documents = documents; unknown = unknown; versions = versions }
+abbrev pub workspace_of : Infer → Markup → Encoding → List SourceFile → List SourceFile → List (List ℕ) → List Version → Workspace
+workspace_of infer markup encoding disk documents unknown versions = record { infer = infer; markup = markup; encoding = encoding; disk = disk; documents = documents; unknown = unknown; versions = versions }
 
 -- a workspace after a message that makes of its documents these, or leaves them; none where it doesn't touch which texts are unknown either
 abbrev pub moved_by : Message → Workspace → Option (List SourceFile) → Option Workspace
-moved_by message before None = if touches message then Some (workspace_of before.infer before.markup before.disk before.documents (unknown_behind message before.documents before.unknown) (versions_behind message before.documents before.versions)) else None
-moved_by message before (Some documents) = Some (workspace_of before.infer before.markup before.disk documents (unknown_behind message before.documents before.unknown) (versions_behind message before.documents before.versions))
+moved_by message before None = if touches message then Some (workspace_of before.infer before.markup before.encoding before.disk before.documents (unknown_behind message before.documents before.unknown) (versions_behind message before.documents before.versions)) else None
+moved_by message before (Some documents) = Some (workspace_of before.infer before.markup before.encoding before.disk documents (unknown_behind message before.documents before.unknown) (versions_behind message before.documents before.versions))
 
 -- the folder's files, the open documents, and those of unknown texts, after an event; none where it changes none of them
 abbrev pub IsMoved : Event → Workspace → Option Workspace → Type 0
-IsMoved (Folder files) before after = after ≡ Some (workspace_of before.infer before.markup files before.documents before.unknown before.versions)
-IsMoved (MessageEvent message) before after = (documents : Option (List SourceFile)) × AreEdited before.unknown message before.documents documents × (after ≡ moved_by message before documents)
+IsMoved (Folder files) before after = after ≡ Some (workspace_of before.infer before.markup before.encoding files before.documents before.unknown before.versions)
+IsMoved (MessageEvent message) before after = (documents : Option (List SourceFile)) × AreEdited before.encoding before.unknown message before.documents documents × (after ≡ moved_by message before documents)
 
--- `initialize` says which members are inferred, and how the client shows what stands at a position
+-- `initialize` says which members are inferred, how the client shows what stands at a position, and the unit of positions
 abbrev pub chosen_by : Message → Workspace → Option Workspace
-chosen_by (Initialize id folders infer files exclude markup) before = Some (workspace_of (chosen infer before.infer) markup before.disk before.documents before.unknown before.versions)
+chosen_by (Initialize id folders infer files exclude markup encoding) before = Some (workspace_of (chosen infer before.infer) markup encoding before.disk before.documents before.unknown before.versions)
 chosen_by _ before = None
 
 abbrev pub started_by : Event → Workspace → Option Workspace
@@ -180,7 +182,7 @@ pub record ServerOf : Type 0 where
 
 -- a server that infers these members where `initialize` chooses none
 abbrev pub new_server : Infer → ServerOf
-new_server infer = record { phase = Waiting; workspace = workspace_of infer Plain [] [] [] []; told = []; last = no_report }
+new_server infer = record { phase = Waiting; workspace = workspace_of infer Plain Utf16 [] [] [] []; told = []; last = no_report }
 
 -- the files as they stand
 abbrev pub files_of : Workspace → List SourceFile
@@ -200,13 +202,13 @@ abbrev pub is_offered : List Told → Workspace → List ℕ → Range → Bool
 is_offered told workspace name range = is_empty workspace.unknown && is_told_at told name range
 
 -- the files' actions, where they are offered; else none
-abbrev pub AreActionsIf : Infer → Bool → List SourceFile → List ℕ → Range → List Action → Type 0
-AreActionsIf infer false files name range actions = actions ≡ []
-AreActionsIf infer true files name range actions = AreActions infer files name range actions
+abbrev pub AreActionsIf : Infer → Encoding → Bool → List SourceFile → List ℕ → Range → List Action → Type 0
+AreActionsIf infer encoding false files name range actions = actions ≡ []
+AreActionsIf infer encoding true files name range actions = AreActions infer encoding files name range actions
 
 -- the actions for a request of actions; other messages have none
 abbrev pub AreActionsFor : List Told → Workspace → Message → List Action → Type 0
-AreActionsFor told workspace (CodeAction id name range) actions = AreActionsIf workspace.infer (is_offered told workspace name range) (files_of workspace) name range actions
+AreActionsFor told workspace (CodeAction id name range) actions = AreActionsIf workspace.infer workspace.encoding (is_offered told workspace name range) (files_of workspace) name range actions
 AreActionsFor told workspace other actions = actions ≡ []
 
 -- actions are offered only while the server serves
@@ -218,8 +220,8 @@ AreActionsIn _ _ _ _ actions = actions ≡ []
 abbrev pub AreAnswers : Phase → List Told → Workspace → Event → List Reply → Type 0
 AreAnswers phase told workspace (MessageEvent message) replies =
     (actions : List Action) × AreActionsIn phase told workspace message actions
-    × (hints : List Hint) × AreHintsIn phase workspace.infer workspace.unknown (files_of workspace) message hints
-    × (hover : Option Hover) × IsHoverIn phase workspace.infer workspace.unknown (files_of workspace) message hover
+    × (hints : List Hint) × AreHintsIn phase workspace.infer workspace.encoding workspace.unknown (files_of workspace) message hints
+    × (hover : Option Hover) × IsHoverIn phase workspace.infer workspace.encoding workspace.unknown (files_of workspace) message hover
     × (replies ≡ option_to_list (answer_of workspace.markup actions hints hover phase message) ++ doubts_in phase message workspace.documents workspace.unknown)
 AreAnswers phase told workspace (Folder files) replies = replies ≡ []
 
@@ -232,7 +234,7 @@ opened_by _ = None
 
 -- what is told of a workspace: this report of its files as they stand, after that last one that came to the rules, and of files whose text isn't known nothing
 pub record AreToldOf (workspace : Workspace) (last : LastReport) (came : Bool) (all told : List Told) : Type 0 where
-  pub is : IsTold workspace.infer last came (files_of workspace) all
+  pub is : IsTold workspace.infer workspace.encoding last came (files_of workspace) all
   pub told_is : told ≡ hushed workspace.unknown all
 
 -- the report of a workspace is told, and kept where it comes to the rules
@@ -271,13 +273,13 @@ IsInformed server = (came : Bool) × (all : List Told) × AreToldOf server.works
 
 -- ---- the theorem
 
--- of each name this was published last: of no files nothing, else what the files' report says of it where these members are inferred, after the last
+-- of each name this was published last: of no files nothing, else what the files' report says of it where these members are inferred, in this unit of positions, after the last
 -- report that came to the rules; a name that doesn't stand has none, nor one whose text isn't known
-abbrev pub ArePublishedLast : Infer → LastReport → List (List ℕ) → List SourceFile → (List ℕ → List Diagnostic) → Type 0
-ArePublishedLast infer last unknown [] published = (name : List ℕ) → published name ≡ []
-ArePublishedLast infer last unknown (file ∷ files) published =
+abbrev pub ArePublishedLast : Infer → Encoding → LastReport → List (List ℕ) → List SourceFile → (List ℕ → List Diagnostic) → Type 0
+ArePublishedLast infer encoding last unknown [] published = (name : List ℕ) → published name ≡ []
+ArePublishedLast infer encoding last unknown (file ∷ files) published =
     (report : Report) × (notes : List Notes) × AreFindings infer (file ∷ files) report notes
-    × ((name : List ℕ) → published name ≡ unless_unknown unknown name (diagnostics_of (reported_at last (file ∷ files) report notes) (file ∷ files) name))
+    × ((name : List ℕ) → published name ≡ unless_unknown unknown name (diagnostics_of (reported_at encoding last (file ∷ files) report notes) (file ∷ files) name))
 
 abbrev pub IsUpToDate : ServerOf → List Reply → Type 0
-IsUpToDate server replies = ArePublishedLast server.workspace.infer server.last server.workspace.unknown (files_of server.workspace) (λ name. last_published name [] replies)
+IsUpToDate server replies = ArePublishedLast server.workspace.infer server.workspace.encoding server.last server.workspace.unknown (files_of server.workspace) (λ name. last_published name [] replies)

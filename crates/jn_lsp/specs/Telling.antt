@@ -3,6 +3,7 @@ use Rattle.std.specs.Prelude.{ℕ, ◌+◌, ◌==◌, List, [], ◌∷◌, ◌++
 use Rattle.jn_base.specs.declared.place.Row.{Row}
 use Rattle.jn_front.specs.declared.source.SourceFile.{SourceFile}
 use Rattle.jn_lsp_hover.specs.Related.{home, range_in, related_of}
+use Rattle.jn_lsp_text.specs.declared.encoding.Encoding.{Encoding}
 use Rattle.jn_lsp_text.specs.declared.reply.Diagnostic.{Diagnostic}
 use Rattle.jn_lsp_text.specs.declared.reply.Said.TheVariants as said
 use Rattle.jn_note_words.specs.declared.note.Note.{Note}
@@ -13,8 +14,8 @@ use Rattle.jn_lsp.specs.declared.diagnostics.Told.{Told}
 -- ---- diagnostics
 
 -- a row at its range, with these notes
-abbrev pub diagnostic_of : List SourceFile → Row → List Note → Diagnostic
-diagnostic_of files row shown = record { range = range_in files row.span; said = said.Row row.code; related = map (related_of files) shown }
+abbrev pub diagnostic_of : Encoding → List SourceFile → Row → List Note → Diagnostic
+diagnostic_of encoding files row shown = record { range = range_in encoding files row.span; said = said.Row row.code; related = map (related_of encoding files) shown }
 
 -- the notes that are shown of a list's first row; none where the list is shorter
 abbrev pub first_shown : List Notes → List Note
@@ -26,13 +27,13 @@ notes_behind [] = []
 notes_behind (first ∷ notes) = notes
 
 -- that of a row which stands at the file of a number; none elsewhere
-abbrev pub diagnostics_of_row : List SourceFile → Row → List Note → ℕ → List Diagnostic
-diagnostics_of_row files row shown at = if home files row.span == at then diagnostic_of files row shown ∷ [] else []
+abbrev pub diagnostics_of_row : Encoding → List SourceFile → Row → List Note → ℕ → List Diagnostic
+diagnostics_of_row encoding files row shown at = if home files row.span == at then diagnostic_of encoding files row shown ∷ [] else []
 
 -- those of the rows that stand at the file of a number, in their order, each with the notes at its place
-abbrev pub diagnostics_at : List SourceFile → List Row → List Notes → ℕ → List Diagnostic
-diagnostics_at files [] notes at = []
-diagnostics_at files (row ∷ rows) notes at = diagnostics_of_row files row (first_shown notes) at ++ diagnostics_at files rows (notes_behind notes) at
+abbrev pub diagnostics_at : Encoding → List SourceFile → List Row → List Notes → ℕ → List Diagnostic
+diagnostics_at encoding files [] notes at = []
+diagnostics_at encoding files (row ∷ rows) notes at = diagnostics_of_row encoding files row (first_shown notes) at ++ diagnostics_at encoding files rows (notes_behind notes) at
 
 -- what this gives of a place; of none nothing
 abbrev pub diagnostics_of_place : (ℕ → List Diagnostic) → Option ℕ → List Diagnostic

@@ -53,8 +53,9 @@ fn waiting_answer(alloc: Global, message: &Message) -> Result<Option<Reply>, Out
     ensures { IfOk result (λ answer. answer ≡ spec.waiting_answer message.now) }
 {
     match message {
-        Message::Initialize { id, .. } => Ok(Some(Reply::Capabilities {
+        Message::Initialize { id, encoding, .. } => Ok(Some(Reply::Capabilities {
             id: id.copy(alloc)?,
+            encoding: *encoding,
         })),
         Message::CodeAction { id, .. } => refused(alloc, Failure::NotInitialized, id),
         Message::InlayHint { id, .. } => refused(alloc, Failure::NotInitialized, id),

@@ -6,7 +6,7 @@ ghost use Rattle.jn_recheck.specs.Files.{AllFit};
 use jn_base::{OutOfMemory, Row, Seq, Text};
 use jn_front::SourceFile;
 use jn_lsp_hover::related::{all_related, home, range_in};
-use jn_lsp_text::{Diagnostic, Said};
+use jn_lsp_text::{Diagnostic, Encoding, Said};
 use jn_note_words::{Note, Notes};
 use std::alloc::{AllocError, Global};
 
@@ -29,24 +29,26 @@ fn shown_at(notes: &[Notes], at: usize) -> &[Note]
 
 fn diagnostic_of(
     alloc: Global,
+    encoding: Encoding,
     files: &[SourceFile],
     row: &Row,
     notes: &[Note],
 ) -> Result<Diagnostic, AllocError>
     requires fit { AllFit files.now }
     ensures { IfOk result (λ diagnostic. diagnostic
-        ≡ spec.diagnostic_of files.now row.now notes.now) }
+        ≡ spec.diagnostic_of encoding files.now row.now notes.now) }
 {
     Ok(Diagnostic {
-        range: range_in(files, &row.span),
+        range: range_in(encoding, files, &row.span),
         said: Said::Row(row.code),
-        related: all_related(alloc, files, notes)?,
+        related: all_related(alloc, encoding, files, notes)?,
     })
 }
 
 /// Puts a row's diagnostic after the others, where the row stands at the file of this number.
 fn add_row(
     alloc: Global,
+    encoding: Encoding,
     files: &[SourceFile],
     row: &Row,
     notes: &[Note],
@@ -55,10 +57,10 @@ fn add_row(
 ) -> Result<(), AllocError>
     requires fit { AllFit files.now }
     ensures { OnOk result (diagnostics.new
-        ≡ diagnostics.old ++ spec.diagnostics_of_row files.now row.now notes.now file) }
+        ≡ diagnostics.old ++ spec.diagnostics_of_row encoding files.now row.now notes.now file) }
 {
     if home(files, &row.span) == file {
-        diagnostics.push(diagnostic_of(alloc, files, row, notes)?)?;
+        diagnostics.push(diagnostic_of(alloc, encoding, files, row, notes)?)?;
     }
     Ok(())
 }
@@ -66,6 +68,7 @@ fn add_row(
 /// The diagnostics of the rows that stand at the file of this number.
 pub(crate) fn diagnostics_at(
     alloc: Global,
+    encoding: Encoding,
     files: &[SourceFile],
     rows: &[Row],
     notes: &[Notes],
@@ -73,12 +76,13 @@ pub(crate) fn diagnostics_at(
 ) -> Result<Seq<Diagnostic>, AllocError>
     requires fit { AllFit files.now }
     ensures { IfOk result (λ diagnostics. diagnostics
-        ≡ spec.diagnostics_at files.now rows.now notes.now file) }
+        ≡ spec.diagnostics_at encoding files.now rows.now notes.now file) }
 {
     let mut diagnostics = Seq::new(alloc);
     for at in 0..rows.len() {
         add_row(
             alloc,
+            encoding,
             files,
             &rows[at],
             shown_at(notes, at),
@@ -113,17 +117,18 @@ pub(crate) fn push(told: &mut Vec<Told>, one: Told) -> Result<(), AllocError>
 /// What is told of each file: of the report's rows those that stand there.
 pub(crate) fn told_of_all(
     alloc: Global,
+    encoding: Encoding,
     files: &[SourceFile],
     rows: &[Row],
     notes: &[Notes],
 ) -> Result<Vec<Told>, OutOfMemory>
     requires fit { AllFit files.now }
     ensures { IfOk result (λ told. told.items
-        ≡ spec.told_from (spec.diagnostics_at files.now rows.now notes.now) 0 files.now) }
+        ≡ spec.told_from (spec.diagnostics_at encoding files.now rows.now notes.now) 0 files.now) }
 {
     let mut told = Vec::new(alloc);
     for at in 0..files.len() {
-        let diagnostics = diagnostics_at(alloc, files, rows, notes, at)?;
+        let diagnostics = diagnostics_at(alloc, encoding, files, rows, notes, at)?;
         push(&mut told, told_of(alloc, &files[at], diagnostics)?)?;
     }
     Ok(told)

@@ -12,14 +12,15 @@ use crate::unknown::{copy_names, is_among, touches, unknown_behind};
 use crate::versions::{Version, copy_versions, versions_behind};
 use jn_base::{Infer, OutOfMemory, Seq, Text};
 use jn_front::SourceFile;
-use jn_lsp_text::{Change, Markup, Message, chosen, replace};
+use jn_lsp_text::{Change, Encoding, Markup, Message, chosen, replace};
 use std::alloc::{AllocError, Global};
 
-/// Which members are inferred, how the client shows what stands at a position, the folder's files as they were last read, and the documents that the client has open, in the order in which they were opened.
+/// Which members are inferred, how the client shows what stands at a position, the unit of positions, the folder's files as they were last read, and the documents that the client has open, in the order in which they were opened.
 #[derive(Drop)]
 pub struct Workspace {
     pub infer: Infer,
     pub markup: Markup,
+    pub encoding: Encoding,
     pub disk: Seq<SourceFile>,
     pub documents: Seq<SourceFile>,
     /// The names of documents whose texts aren't known, since what the client sent of them can't be read.
@@ -37,24 +38,35 @@ fn copy_bytes(alloc: Global, bytes: &[u8]) -> Result<Seq<u8>, AllocError>
 }
 
 /// The text after a change.
-fn changed(alloc: Global, change: &Change, text: &[u8]) -> Result<Seq<u8>, OutOfMemory>
-    ensures { IfOk result (λ made. spec.IsChanged change.now text.now made) }
+fn changed(
+    alloc: Global,
+    encoding: Encoding,
+    change: &Change,
+    text: &[u8],
+) -> Result<Seq<u8>, OutOfMemory>
+    ensures { IfOk result (λ made. spec.IsChanged encoding change.now text.now made) }
 {
     match change {
         Change::Whole(new) => Ok(copy_bytes(alloc, new.as_slice())?),
         Change::Part { range, text: new } => {
-            Ok(Seq::of_vec(replace(alloc, text, *range, new.as_slice())?))
+            let new = new.as_slice();
+            Ok(Seq::of_vec(replace(alloc, encoding, text, *range, new)?))
         }
     }
 }
 
 /// The text after the changes, each of the text after the one before.
-fn changed_by_all(alloc: Global, changes: &[Change], text: &[u8]) -> Result<Seq<u8>, OutOfMemory>
-    ensures { IfOk result (λ made. spec.AreChanged changes.now text.now made) }
+fn changed_by_all(
+    alloc: Global,
+    encoding: Encoding,
+    changes: &[Change],
+    text: &[u8],
+) -> Result<Seq<u8>, OutOfMemory>
+    ensures { IfOk result (λ made. spec.AreChanged encoding changes.now text.now made) }
 {
     let mut made = copy_bytes(alloc, text)?;
     for change in changes {
-        made = changed(alloc, change, made.as_slice())?;
+        made = changed(alloc, encoding, change, made.as_slice())?;
     }
     Ok(made)
 }
@@ -158,12 +170,13 @@ fn opened(
 
 fn typed(
     alloc: Global,
+    encoding: Encoding,
     unknown: &[Text],
     documents: &[SourceFile],
     name: &str,
     changes: &[Change],
 ) -> Result<Option<Seq<SourceFile>>, OutOfMemory>
-    ensures { IfOk result (λ made. spec.IsTyped name.now changes.now documents.now
+    ensures { IfOk result (λ made. spec.IsTyped encoding name.now changes.now documents.now
         (spec.known_document unknown.now name.now documents.now) made) }
 {
     if is_among(unknown, name) {
@@ -172,7 +185,8 @@ fn typed(
     match place_of(documents, name) {
         None => Ok(None),
         Some(at) => {
-            let text = changed_by_all(alloc, changes, documents[at].bytes.as_slice())?;
+            let before = documents[at].bytes.as_slice();
+            let text = changed_by_all(alloc, encoding, changes, before)?;
             Ok(Some(with_document(alloc, documents, name, text.as_slice())?))
         }
     }
@@ -194,11 +208,12 @@ fn closed(
 /// The open documents after a message, where it changes them.
 fn edited(
     alloc: Global,
+    encoding: Encoding,
     unknown: &[Text],
     documents: &[SourceFile],
     message: &Message,
 ) -> Result<Option<Seq<SourceFile>>, OutOfMemory>
-    ensures { IfOk result (λ made. spec.AreEdited unknown.now message.now documents.now made) }
+    ensures { IfOk result (λ made. spec.AreEdited encoding unknown.now message.now documents.now made) }
 {
     match message {
         Message::DidOpen { name, text, .. } => opened(
@@ -208,7 +223,15 @@ fn edited(
             text.as_slice(),
         ),
         Message::DidChange { name, changes, .. } => {
-            typed(alloc, unknown, documents, name.as_str(), changes.as_slice())
+            let name = name.as_str();
+            typed(
+                alloc,
+                encoding,
+                unknown,
+                documents,
+                name,
+                changes.as_slice(),
+            )
         }
         Message::DidClose { name } => closed(alloc, documents, name.as_str()),
         _ => Ok(None),
@@ -225,6 +248,7 @@ impl Workspace {
         Workspace {
             infer,
             markup: Markup::Plain,
+            encoding: Encoding::Utf16,
             disk: Seq::new(alloc),
             documents: Seq::new(alloc),
             unknown: Seq::new(alloc),
@@ -234,11 +258,12 @@ impl Workspace {
 
     fn with_disk(&self, alloc: Global, disk: &[SourceFile]) -> Result<Workspace, OutOfMemory>
         ensures { IfOk result (λ made. made
-            ≡ serving.workspace_of self.now.infer self.now.markup disk.now self.now.documents self.now.unknown self.now.versions) }
+            ≡ serving.workspace_of self.now.infer self.now.markup self.now.encoding disk.now self.now.documents self.now.unknown self.now.versions) }
     {
         Ok(Workspace {
             infer: self.infer,
             markup: self.markup,
+            encoding: self.encoding,
             disk: Seq::of_vec(copy_documents(alloc, disk)?),
             documents: Seq::of_vec(copy_documents(alloc, self.documents.as_slice())?),
             unknown: copy_names(alloc, self.unknown.as_slice())?,
@@ -253,7 +278,7 @@ impl Workspace {
         message: &Message,
         documents: Seq<SourceFile>,
     ) -> Result<Workspace, OutOfMemory>
-        ensures { IfOk result (λ made. made ≡ serving.workspace_of self.now.infer self.now.markup self.now.disk documents
+        ensures { IfOk result (λ made. made ≡ serving.workspace_of self.now.infer self.now.markup self.now.encoding self.now.disk documents
             (unknown_behind message.now self.now.documents self.now.unknown)
             (versions_behind message.now self.now.documents self.now.versions)) }
     {
@@ -272,6 +297,7 @@ impl Workspace {
         Ok(Workspace {
             infer: self.infer,
             markup: self.markup,
+            encoding: self.encoding,
             disk: Seq::of_vec(copy_documents(alloc, self.disk.as_slice())?),
             documents,
             unknown,
@@ -312,6 +338,7 @@ impl Workspace {
             Event::Message(message) => {
                 let documents = edited(
                     alloc,
+                    self.encoding,
                     self.unknown.as_slice(),
                     self.documents.as_slice(),
                     message,
@@ -322,19 +349,21 @@ impl Workspace {
         }
     }
 
-    /// The workspace where these members are inferred, of a client that shows so what stands at a position.
+    /// The workspace where these members are inferred, of a client that shows so what stands at a position, with this unit of positions.
     fn with_settings(
         &self,
         alloc: Global,
         infer: Infer,
         markup: Markup,
+        encoding: Encoding,
     ) -> Result<Workspace, OutOfMemory>
-        ensures { IfOk result (λ made. made ≡ serving.workspace_of infer markup self.now.disk
+        ensures { IfOk result (λ made. made ≡ serving.workspace_of infer markup encoding self.now.disk
             self.now.documents self.now.unknown self.now.versions) }
     {
         Ok(Workspace {
             infer,
             markup,
+            encoding,
             disk: Seq::of_vec(copy_documents(alloc, self.disk.as_slice())?),
             documents: Seq::of_vec(copy_documents(alloc, self.documents.as_slice())?),
             unknown: copy_names(alloc, self.unknown.as_slice())?,
@@ -347,9 +376,14 @@ impl Workspace {
         ensures { IfOk result (λ moved. moved ≡ serving.chosen_by message.now self.now) }
     {
         match message {
-            Message::Initialize { infer, markup, .. } => {
+            Message::Initialize {
+                infer,
+                markup,
+                encoding,
+                ..
+            } => {
                 let infer = chosen(*infer, self.infer);
-                Ok(Some(self.with_settings(alloc, infer, *markup)?))
+                Ok(Some(self.with_settings(alloc, infer, *markup, *encoding)?))
             }
             _ => Ok(None),
         }

@@ -4,7 +4,7 @@ ghost use Rattle.jn_lsp.specs.Front as spec;
 ghost use Rattle.jn_lsp.specs.declared.front.Gap.TheVariants.{Blank};
 
 use jn_base::place::is_line_end;
-use jn_lsp_text::{Range, range_of};
+use jn_lsp_text::{Encoding, Range, range_of};
 
 /// How a text goes on (JLS 8, 3.6 and 3.7).
 #[derive(Clone, Copy, Debug, PartialEq, Eq)]
@@ -98,10 +98,10 @@ fn before_token(text: &[u8]) -> usize
 }
 
 /// The place of a text's first token, or of its end.
-pub(crate) fn front(text: &[u8]) -> Range
+pub(crate) fn front(encoding: Encoding, text: &[u8]) -> Range
     requires small { length text.now < 2 ^ 30 }
-    ensures { result ≡ spec.front text.now }
+    ensures { result ≡ spec.front encoding text.now }
 {
     let at = before_token(text) as u32;
-    range_of(text, at, at)
+    range_of(encoding, text, at, at)
 }

@@ -26,7 +26,7 @@ fn hints_of<R: Threads + Sync, G: Gate + Sync>(
     name: &str,
     range: Range,
 ) -> Result<Seq<Hint>, OutOfMemory>
-    ensures { IfOk result (λ hints. AreHints workspace.now.infer (files_of workspace.now) name.now range
+    ensures { IfOk result (λ hints. AreHints workspace.now.infer workspace.now.encoding (files_of workspace.now) name.now range
         hints) }
 {
     let files = stand(alloc, workspace)?;
@@ -36,6 +36,7 @@ fn hints_of<R: Threads + Sync, G: Gate + Sync>(
         alloc,
         WORKERS,
         workspace.infer,
+        workspace.encoding,
         files.as_slice(),
         name,
         range,
@@ -52,7 +53,7 @@ fn hints_at<R: Threads + Sync, G: Gate + Sync>(
     name: &str,
     range: Range,
 ) -> Result<Seq<Hint>, OutOfMemory>
-    ensures { IfOk result (λ hints. spec.AreHintsIf workspace.now.infer
+    ensures { IfOk result (λ hints. spec.AreHintsIf workspace.now.infer workspace.now.encoding
         (no_names workspace.now.unknown) (files_of workspace.now) name.now range hints) }
 {
     if is_empty(workspace.unknown.as_slice()) {
@@ -70,7 +71,7 @@ fn hints_for_message<R: Threads + Sync, G: Gate + Sync>(
     workspace: &Workspace,
     message: &Message,
 ) -> Result<Seq<Hint>, OutOfMemory>
-    ensures { IfOk result (λ hints. spec.AreHintsFor workspace.now.infer workspace.now.unknown
+    ensures { IfOk result (λ hints. spec.AreHintsFor workspace.now.infer workspace.now.encoding workspace.now.unknown
         (files_of workspace.now) message.now hints) }
 {
     match message {
@@ -90,7 +91,7 @@ pub(crate) fn hinted<R: Threads + Sync, G: Gate + Sync>(
     workspace: &Workspace,
     message: &Message,
 ) -> Result<Seq<Hint>, OutOfMemory>
-    ensures { IfOk result (λ hints. spec.AreHintsIn phase workspace.now.infer
+    ensures { IfOk result (λ hints. spec.AreHintsIn phase workspace.now.infer workspace.now.encoding
         workspace.now.unknown (files_of workspace.now) message.now hints) }
 {
     match phase {

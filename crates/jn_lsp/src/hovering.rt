@@ -26,7 +26,7 @@ fn hover_of<R: Threads + Sync, G: Gate + Sync>(
     name: &str,
     position: Position,
 ) -> Result<Option<Hover>, OutOfMemory>
-    ensures { IfOk result (λ hover. IsHover workspace.now.infer (files_of workspace.now) name.now
+    ensures { IfOk result (λ hover. IsHover workspace.now.infer workspace.now.encoding (files_of workspace.now) name.now
         position hover) }
 {
     let files = stand(alloc, workspace)?;
@@ -36,6 +36,7 @@ fn hover_of<R: Threads + Sync, G: Gate + Sync>(
         alloc,
         WORKERS,
         workspace.infer,
+        workspace.encoding,
         files.as_slice(),
         name,
         position,
@@ -52,7 +53,7 @@ fn hover_at<R: Threads + Sync, G: Gate + Sync>(
     name: &str,
     position: Position,
 ) -> Result<Option<Hover>, OutOfMemory>
-    ensures { IfOk result (λ hover. spec.IsHoverIf workspace.now.infer
+    ensures { IfOk result (λ hover. spec.IsHoverIf workspace.now.infer workspace.now.encoding
         (no_names workspace.now.unknown) (files_of workspace.now) name.now position hover) }
 {
     if is_empty(workspace.unknown.as_slice()) {
@@ -70,7 +71,7 @@ fn hover_for_message<R: Threads + Sync, G: Gate + Sync>(
     workspace: &Workspace,
     message: &Message,
 ) -> Result<Option<Hover>, OutOfMemory>
-    ensures { IfOk result (λ hover. spec.IsHoverFor workspace.now.infer workspace.now.unknown
+    ensures { IfOk result (λ hover. spec.IsHoverFor workspace.now.infer workspace.now.encoding workspace.now.unknown
         (files_of workspace.now) message.now hover) }
 {
     match message {
@@ -90,7 +91,7 @@ pub(crate) fn hovered<R: Threads + Sync, G: Gate + Sync>(
     workspace: &Workspace,
     message: &Message,
 ) -> Result<Option<Hover>, OutOfMemory>
-    ensures { IfOk result (λ hover. spec.IsHoverIn phase workspace.now.infer
+    ensures { IfOk result (λ hover. spec.IsHoverIn phase workspace.now.infer workspace.now.encoding
         workspace.now.unknown (files_of workspace.now) message.now hover) }
 {
     match phase {

@@ -42,7 +42,7 @@ fn actions_of<R: Threads + Sync, G: Gate + Sync>(
     name: &str,
     range: Range,
 ) -> Result<Seq<Action>, OutOfMemory>
-    ensures { IfOk result (λ actions. AreActions workspace.now.infer (spec.files_of workspace.now) name.now range
+    ensures { IfOk result (λ actions. AreActions workspace.now.infer workspace.now.encoding (spec.files_of workspace.now) name.now range
         actions) }
 {
     let files = stand(alloc, workspace)?;
@@ -52,6 +52,7 @@ fn actions_of<R: Threads + Sync, G: Gate + Sync>(
         alloc,
         WORKERS,
         workspace.infer,
+        workspace.encoding,
         files.as_slice(),
         name,
         range,
@@ -70,7 +71,7 @@ fn actions_at<R: Threads + Sync, G: Gate + Sync>(
     name: &str,
     range: Range,
 ) -> Result<Seq<Action>, OutOfMemory>
-    ensures { IfOk result (λ actions. spec.AreActionsIf workspace.now.infer
+    ensures { IfOk result (λ actions. spec.AreActionsIf workspace.now.infer workspace.now.encoding
         (spec.is_offered told.now workspace.now name.now range)
         (spec.files_of workspace.now) name.now range actions) }
 {

@@ -9,6 +9,7 @@ use crate::unchecked::{LastReport, unchecked_of_all};
 use jn_base::{Infer, OutOfMemory};
 use jn_diag::Verdict;
 use jn_front::SourceFile;
+use jn_lsp_text::Encoding;
 use jn_note_words::Notes;
 use jn_recheck::{Checked, Session};
 use jn_sharing::Gate;
@@ -65,6 +66,7 @@ pub(crate) struct Tale {
 fn tale_of(
     alloc: Global,
     infer: Infer,
+    encoding: Encoding,
     last: &LastReport,
     files: &[SourceFile],
     checked: &Checked,
@@ -72,21 +74,21 @@ fn tale_of(
 ) -> Result<Tale, OutOfMemory>
     requires fit { AllFit files.now }
     requires noted { AreNoted infer files.now checked.now.places.items checked.now.verdict notes.now }
-    ensures { IfOk result (λ tale. AreTold infer last.now tale.came files.now tale.told.items) }
+    ensures { IfOk result (λ tale. AreTold infer encoding last.now tale.came files.now tale.told.items) }
 {
     let _infer = infer;
     let rows = checked.places.as_slice();
     match checked.verdict {
         Verdict::Refused(_) => {
-            let told = unchecked_of_all(alloc, last, files, rows, notes)?;
+            let told = unchecked_of_all(alloc, encoding, last, files, rows, notes)?;
             Ok(Tale { told, came: false })
         }
         Verdict::Rejected(_) => {
-            let told = told_of_all(alloc, files, rows, notes)?;
+            let told = told_of_all(alloc, encoding, files, rows, notes)?;
             Ok(Tale { told, came: true })
         }
         Verdict::Accepted => {
-            let told = told_of_all(alloc, files, rows, notes)?;
+            let told = told_of_all(alloc, encoding, files, rows, notes)?;
             Ok(Tale { told, came: true })
         }
     }
@@ -98,6 +100,7 @@ fn report<R: Threads + Sync, G: Gate + Sync>(
     gate: &G,
     alloc: Global,
     infer: Infer,
+    encoding: Encoding,
     session: &mut Session,
     last: &LastReport,
     files: &[SourceFile],
@@ -105,28 +108,37 @@ fn report<R: Threads + Sync, G: Gate + Sync>(
     requires chosen { session.old.infer ≡ infer }
     requires fit { AllFit files.now }
     requires distinct { HaveOwnNames files.now }
-    ensures { IfOk result (λ tale. AreTold infer last.now tale.came files.now tale.told.items) }
+    ensures { IfOk result (λ tale. AreTold infer encoding last.now tale.came files.now tale.told.items) }
 {
     session.replace(files)?;
     let checked = session.report(rt, WORKERS, gate, gate)?;
     let notes = notes_of(rt, gate, alloc, infer, session, files, &checked)?;
-    let tale = tale_of(alloc, infer, last, files, &checked, notes.as_slice())?;
+    let tale = tale_of(
+        alloc,
+        infer,
+        encoding,
+        last,
+        files,
+        &checked,
+        notes.as_slice(),
+    )?;
     Ok(tale)
 }
 
-/// What is told of these files where these members are inferred, after this last report that came to the rules; of no files nothing.
+/// What is told of these files where these members are inferred, in this unit of positions, after this last report that came to the rules; of no files nothing.
 pub(crate) fn tell<R: Threads + Sync, G: Gate + Sync>(
     rt: &R,
     gate: &G,
     alloc: Global,
     infer: Infer,
+    encoding: Encoding,
     session: &mut Session,
     last: &LastReport,
     files: &[SourceFile],
 ) -> Result<Tale, OutOfMemory>
     requires fit { AllFit files.now }
     requires distinct { HaveOwnNames files.now }
-    ensures { IfOk result (λ tale. IsTold infer last.now tale.came files.now tale.told.items) }
+    ensures { IfOk result (λ tale. IsTold infer encoding last.now tale.came files.now tale.told.items) }
 {
     if files.len() == 0 {
         return Ok(Tale {
@@ -135,6 +147,6 @@ pub(crate) fn tell<R: Threads + Sync, G: Gate + Sync>(
         });
     }
     suit(alloc, infer, session);
-    let tale = report(rt, gate, alloc, infer, session, last, files)?;
+    let tale = report(rt, gate, alloc, infer, encoding, session, last, files)?;
     Ok(tale)
 }

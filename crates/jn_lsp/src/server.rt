@@ -54,6 +54,7 @@ fn retell<R: Threads + Sync, G: Gate + Sync>(
         gate,
         alloc,
         workspace.infer,
+        workspace.encoding,
         session,
         last,
         files.as_slice(),
@@ -85,7 +86,7 @@ fn joined(replies: Seq<Reply>, more: Seq<Reply>) -> Result<Vec<Reply>, AllocErro
     Ok(all)
 }
 
-/// A language server: what it is told is in [`Event`]s. Contracts see its phase, the members that are inferred, the folder's files and the open documents, what was
+/// A language server: what it is told is in [`Event`]s. Contracts see its phase, the members that are inferred, the unit of positions, the folder's files and the open documents, what was
 /// told of the files that stand, and the last report that came to the rules.
 #[derive(Drop)]
 pub struct Server {

@@ -14,7 +14,7 @@ use itoa::{Buffer, Integer};
 use jn_base::{Code, OutOfMemory, Place, Row, Seq, Span, Text, place_of as place_of_span};
 use jn_front::SourceFile;
 use jn_lsp_hover::related::{home, name_of, range_in};
-use jn_lsp_text::{Diagnostic, Related, Said, copy_diagnostics};
+use jn_lsp_text::{Diagnostic, Encoding, Related, Said, copy_diagnostics};
 use jn_note_words::Notes;
 use std::alloc::{AllocError, Global};
 
@@ -139,14 +139,19 @@ fn why(alloc: Global, files: &[SourceFile], row: &Row) -> Result<Text, AllocErro
 }
 
 /// The place of a row, with what is wrong there.
-fn there(alloc: Global, files: &[SourceFile], row: &Row) -> Result<Seq<Related>, AllocError>
+fn there(
+    alloc: Global,
+    encoding: Encoding,
+    files: &[SourceFile],
+    row: &Row,
+) -> Result<Seq<Related>, AllocError>
     requires fit { AllFit files.now }
-    ensures { IfOk result (λ related. related ≡ spec.there files.now row.now ∷ []) }
+    ensures { IfOk result (λ related. related ≡ spec.there encoding files.now row.now ∷ []) }
 {
     let mut related = Seq::new(alloc);
     related.push(Related {
         name: Text::of_str(alloc, name_of(files, &row.span))?,
-        range: range_in(files, &row.span),
+        range: range_in(encoding, files, &row.span),
         words: Text::of_str(alloc, row.code.message())?,
     })?;
     Ok(related)
@@ -155,18 +160,19 @@ fn there(alloc: Global, files: &[SourceFile], row: &Row) -> Result<Seq<Related>,
 /// That a file isn't checked, since the report has this row.
 fn unchecked(
     alloc: Global,
+    encoding: Encoding,
     files: &[SourceFile],
     row: &Row,
     file: &SourceFile,
 ) -> Result<Diagnostic, AllocError>
     requires fit { AllFit files.now }
     requires small { length file.now.bytes < 2 ^ 30 }
-    ensures { IfOk result (λ diagnostic. diagnostic ≡ spec.unchecked files.now row.now file.now) }
+    ensures { IfOk result (λ diagnostic. diagnostic ≡ spec.unchecked encoding files.now row.now file.now) }
 {
     Ok(Diagnostic {
-        range: front(file.bytes.as_slice()),
+        range: front(encoding, file.bytes.as_slice()),
         said: Said::Unchecked(why(alloc, files, row)?),
-        related: there(alloc, files, row)?,
+        related: there(alloc, encoding, files, row)?,
     })
 }
 
@@ -175,6 +181,7 @@ fn unchecked(
 /// Puts after what was told that a file isn't checked, since these are the report's rows.
 fn add_unchecked(
     alloc: Global,
+    encoding: Encoding,
     files: &[SourceFile],
     rows: &[Row],
     file: &SourceFile,
@@ -183,17 +190,18 @@ fn add_unchecked(
     requires fit { AllFit files.now }
     requires small { length file.now.bytes < 2 ^ 30 }
     ensures { OnOk result (diagnostics.new
-        ≡ diagnostics.old ++ spec.unchecked_by files.now rows.now file.now) }
+        ≡ diagnostics.old ++ spec.unchecked_by encoding files.now rows.now file.now) }
 {
     match rows {
         [] => Ok(()),
-        [row, ..] => diagnostics.push(unchecked(alloc, files, row, file)?),
+        [row, ..] => diagnostics.push(unchecked(alloc, encoding, files, row, file)?),
     }
 }
 
 /// What was told of a file whose text is as it was, and that it isn't checked.
 fn kept(
     alloc: Global,
+    encoding: Encoding,
     last: &LastReport,
     files: &[SourceFile],
     rows: &[Row],
@@ -202,10 +210,10 @@ fn kept(
     requires fit { AllFit files.now }
     requires small { length file.now.bytes < 2 ^ 30 }
     ensures { IfOk result (λ diagnostics. diagnostics
-        ≡ spec.kept_of last.now file.now ++ spec.unchecked_by files.now rows.now file.now) }
+        ≡ spec.kept_of last.now file.now ++ spec.unchecked_by encoding files.now rows.now file.now) }
 {
     let mut diagnostics = copy_diagnostics(alloc, kept_of(last, file))?;
-    add_unchecked(alloc, files, rows, file, &mut diagnostics)?;
+    add_unchecked(alloc, encoding, files, rows, file, &mut diagnostics)?;
     Ok(diagnostics)
 }
 
@@ -213,6 +221,7 @@ fn kept(
 #[tactic(auto, using(crate::proofs::Keeping::told_rows, crate::proofs::Keeping::told_kept))]
 fn unchecked_at(
     alloc: Global,
+    encoding: Encoding,
     last: &LastReport,
     files: &[SourceFile],
     rows: &[Row],
@@ -222,11 +231,11 @@ fn unchecked_at(
     requires fit { AllFit files.now }
     requires there { at < length files.now }
     ensures { IfOk result (λ diagnostics. diagnostics
-        ≡ spec.unchecked_at last.now files.now rows.now notes.now at) }
+        ≡ spec.unchecked_at encoding last.now files.now rows.now notes.now at) }
 {
-    let own = diagnostics_at(alloc, files, rows, notes, at)?;
+    let own = diagnostics_at(alloc, encoding, files, rows, notes, at)?;
     if own.len() == 0 {
-        kept(alloc, last, files, rows, &files[at])
+        kept(alloc, encoding, last, files, rows, &files[at])
     } else {
         Ok(own)
     }
@@ -235,6 +244,7 @@ fn unchecked_at(
 /// What is told of each file, where these rows, with these notes, end the report before the rules.
 pub(crate) fn unchecked_of_all(
     alloc: Global,
+    encoding: Encoding,
     last: &LastReport,
     files: &[SourceFile],
     rows: &[Row],
@@ -242,11 +252,11 @@ pub(crate) fn unchecked_of_all(
 ) -> Result<Vec<Told>, OutOfMemory>
     requires fit { AllFit files.now }
     ensures { IfOk result (λ told. told.items
-        ≡ told_from (spec.unchecked_at last.now files.now rows.now notes.now) 0 files.now) }
+        ≡ told_from (spec.unchecked_at encoding last.now files.now rows.now notes.now) 0 files.now) }
 {
     let mut told = Vec::new(alloc);
     for at in 0..files.len() {
-        let diagnostics = unchecked_at(alloc, last, files, rows, notes, at)?;
+        let diagnostics = unchecked_at(alloc, encoding, last, files, rows, notes, at)?;
         push(&mut told, told_of(alloc, &files[at], diagnostics)?)?;
     }
     Ok(told)

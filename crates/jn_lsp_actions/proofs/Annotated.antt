@@ -10,6 +10,7 @@ use Rattle.jn_annotate.specs.Words.{is_unspelled}
 use Rattle.jn_annotate.proofs.Sharing.{Least, first_is, least_all, least_next, least_start}
 use Rattle.jn_base.specs.declared.infer.Infer.{Infer}
 use Rattle.jn_front.specs.declared.source.SourceFile.{SourceFile}
+use Rattle.jn_lsp_text.specs.declared.encoding.Encoding.{Encoding}
 use Rattle.jn_lsp_text.specs.declared.range.Range.{Range}
 use Rattle.jn_lsp_text.specs.declared.reply.Hint.{Hint}
 use Rattle.jn_places.specs.Forget.{forget_file}
@@ -51,14 +52,14 @@ no_lines : (text : List ℕ) (ts : List Token) (tree : SourceTree) (words : List
 unfolding with_lines
 no_lines text ts tree words = refl
 
-module _ (slots : List SlotInfo) (s : List Qualifier) (name : List ℕ) (range : Range) where
+module _ (slots : List SlotInfo) (s : List Qualifier) (encoding : Encoding) (name : List ℕ) (range : Range) where
   at_file : (named : Bool) (file : SourceFile) (new : List ℕ) (words : List Insertion) (other : Type 0) (hints others : List Hint) → new ≡ inserted file.bytes words → (hints ≡ others → other)
-      → hints ≡ cond named (shown file.bytes range words) others → Either named (AreAdded range file.bytes new hints) other
+      → hints ≡ cond named (shown encoding file.bytes range words) others → Either named (AreAdded encoding range file.bytes new hints) other
   at_file true file new words other hints others put rest e = record { words = words; put = put; are = e }
   at_file false file new words other hints others put rest e = rest e
 
-  added : (files : List SourceFile) (tokens : List (List Token)) (trees : List SourceTree) (fs : List Field) (ms : List Method) (hints : List Hint) → hints ≡ shown_in name range slots s files tokens trees fs ms
-      → AreAddedIn name range files (annotated_from false slots s (map text_of files) tokens trees fs ms) hints
+  added : (files : List SourceFile) (tokens : List (List Token)) (trees : List SourceTree) (fs : List Field) (ms : List Method) (hints : List Hint) → hints ≡ shown_in encoding name range slots s files tokens trees fs ms
+      → AreAddedIn encoding name range files (annotated_from false slots s (map text_of files) tokens trees fs ms) hints
   added [] tokens trees fs ms hints e = e
   added (file ∷ files) [] trees fs ms hints e = e
   added (file ∷ files) (ts ∷ tokens) [] fs ms hints e = e
@@ -66,7 +67,7 @@ module _ (slots : List SlotInfo) (s : List Qualifier) (name : List ℕ) (range :
       let words = in_file slots s file.bytes ts tree fs ms in
       let fields = drop (file_fields tree.types) fs in
       let methods = drop (file_methods tree.types) ms in
-      at_file (bytes_eq file.name name) file (inserted file.bytes (with_lines false file.bytes ts tree words)) words (AreAddedIn name range files (annotated_from false slots s (map text_of files) tokens trees fields methods) hints) hints (shown_in name range slots s files tokens trees fields methods)
+      at_file (bytes_eq file.name name) file (inserted file.bytes (with_lines false file.bytes ts tree words)) words (AreAddedIn encoding name range files (annotated_from false slots s (map text_of files) tokens trees fields methods) hints) hints (shown_in encoding name range slots s files tokens trees fields methods)
       (ap (inserted file.bytes) (no_lines file.bytes ts tree words)) (added files tokens trees fields methods hints) e
 
 -- ---- shared types
@@ -92,14 +93,14 @@ module _ (P : Program) (s : List Qualifier) (trees : List SourceTree) (none : Ha
 
 -- ---- files
 
-pub of_annotated : (infer : Infer) (files : List SourceFile) (name : List ℕ) (range : Range) (hints : List Hint) (new : List (List ℕ)) (of : AreInferred infer files name range hints)
+pub of_annotated : (infer : Infer) (encoding : Encoding) (files : List SourceFile) (name : List ℕ) (range : Range) (hints : List Hint) (new : List (List ℕ)) (of : AreInferred infer encoding files name range hints)
     → Annotated false of.P of.signature (map text_of files) of.of_files.of_files.tokens (map forget_file of.of_files.of_files.trees) new
-    → AreAddedIn name range files new hints
-of_annotated infer files name range hints new of annotated =
+    → AreAddedIn encoding name range files new hints
+of_annotated infer encoding files name range hints new of annotated =
     let P = of.P in
     let s = of.signature in
     let tokens = of.of_files.of_files.tokens in
     let trees = map forget_file of.of_files.of_files.trees in
-    let are : hints ≡ shown_in name range P.slots s files tokens trees P.fields (drop 1 P.methods) =
-    of.are ∙ (λ i. unless_shared (no_shared P s trees annotated.alone i) (shown_in name range (same_slots P s annotated.spelled i) s files tokens trees P.fields (drop 1 P.methods))) in
-    subst (λ (texts : List (List ℕ)). AreAddedIn name range files texts hints) (sym annotated.are) (added P.slots s name range files tokens trees P.fields (drop 1 P.methods) hints are)
+    let are : hints ≡ shown_in encoding name range P.slots s files tokens trees P.fields (drop 1 P.methods) =
+    of.are ∙ (λ i. unless_shared (no_shared P s trees annotated.alone i) (shown_in encoding name range (same_slots P s annotated.spelled i) s files tokens trees P.fields (drop 1 P.methods))) in
+    subst (λ (texts : List (List ℕ)). AreAddedIn encoding name range files texts hints) (sym annotated.are) (added P.slots s encoding name range files tokens trees P.fields (drop 1 P.methods) hints are)

@@ -8,6 +8,7 @@ use Rattle.jn_command.specs.declared.report.Report.TheVariants.{Refused, Checked
 use Rattle.jn_env.specs.Order.{Table}
 use Rattle.jn_front.specs.declared.source.SourceFile.{SourceFile}
 use Rattle.jn_inference_law.specs.Solution.{IsLeastSignature}
+use Rattle.jn_lsp_text.specs.declared.encoding.Encoding.{Encoding}
 use Rattle.jn_lsp_text.specs.declared.range.Range.{Range}
 use Rattle.jn_lsp_text.specs.declared.reply.Action.{Action}
 use Rattle.jn_notes.specs.Noted.{AreLeastTables}
@@ -31,46 +32,46 @@ pub views : ((tree : FileTree) → forget_file (placed_file tree) ≡ file_view 
 views view [] = refl
 views view (tree ∷ trees) = λ i. sym (view tree) i ∷ views view trees i
 
-module _ (files : List SourceFile) (name : List ℕ) (range : Range) (names : List (List ℕ)) (tokens : List (List Token)) (trees : List SourceTree) (P : Program) (s : List Qualifier) where
-  shared : (n : ℕ) (ns : List ℕ) (rows : List Row) (actions : List Action) → is_among n ns ≡ true → actions ≡ [] → AreUnlessShared files name range names tokens trees P s ns rows actions
+module _ (encoding : Encoding) (files : List SourceFile) (name : List ℕ) (range : Range) (names : List (List ℕ)) (tokens : List (List Token)) (trees : List SourceTree) (P : Program) (s : List Qualifier) where
+  shared : (n : ℕ) (ns : List ℕ) (rows : List Row) (actions : List Action) → is_among n ns ≡ true → actions ≡ [] → AreUnlessShared encoding files name range names tokens trees P s ns rows actions
   shared n [] rows actions h e = absurd (false≢true h)
   shared n (m ∷ ns) rows actions h e = e
 
   -- where a type is shared
-  pub some_shared : (n : ℕ) (rows : List Row) (actions : List Action) → IsLeast (Some n) (shared_slots P s trees P.fields) → actions ≡ [] → AreOfInferred files name range names tokens trees P s rows actions
+  pub some_shared : (n : ℕ) (rows : List Row) (actions : List Action) → IsLeast (Some n) (shared_slots P s trees P.fields) → actions ≡ [] → AreOfInferred encoding files name range names tokens trees P s rows actions
   some_shared n rows actions h e = shared n (shared_slots P s trees P.fields) rows actions h.0 e
 
   -- where none is
-  pub none_shared : (rows : List Row) (actions : List Action) → IsLeast None (shared_slots P s trees P.fields) → AreWritten files name range names tokens trees P s rows actions → AreOfInferred files name range names tokens trees P s rows actions
-  none_shared rows actions e h = subst (λ (ns : List ℕ). AreUnlessShared files name range names tokens trees P s ns rows actions) (sym e) h
+  pub none_shared : (rows : List Row) (actions : List Action) → IsLeast None (shared_slots P s trees P.fields) → AreWritten encoding files name range names tokens trees P s rows actions → AreOfInferred encoding files name range names tokens trees P s rows actions
+  none_shared rows actions e h = subst (λ (ns : List ℕ). AreUnlessShared encoding files name range names tokens trees P s ns rows actions) (sym e) h
 
   -- with those that write null after them
-  pub with_nulls : (tables : List Table) (slots : List (Option ℕ)) (rows : List Row) (inferred all : List Action) → AreLeastTables P s tables → slots ≡ rows_want P s tables (is_asked_row files name range) rows
-      → AreOfInferred files name range names tokens trees P s rows inferred → all ≡ inferred ++ given (give files names tokens trees P s Null) slots → AreOfRules files name range names tokens trees P s rows all
+  pub with_nulls : (tables : List Table) (slots : List (Option ℕ)) (rows : List Row) (inferred all : List Action) → AreLeastTables P s tables → slots ≡ rows_want P s tables (is_asked_row encoding files name range) rows
+      → AreOfInferred encoding files name range names tokens trees P s rows inferred → all ≡ inferred ++ given (give encoding files names tokens trees P s Null) slots → AreOfRules encoding files name range names tokens trees P s rows all
   with_nulls tables slots rows inferred all solved are h e = record {
     inferred = inferred;
-    nulls = given (give files names tokens trees P s Null) slots;
+    nulls = given (give encoding files names tokens trees P s Null) slots;
     of_inferred = h;
-    of_nulls = record { tables = tables; solved = solved; are = ap (given (give files names tokens trees P s Null)) are };
+    of_nulls = record { tables = tables; solved = solved; are = ap (given (give encoding files names tokens trees P s Null)) are };
     are = e;
   }
 
-module _ (infer : Infer) (files : List SourceFile) (name : List ℕ) (range : Range) where
+module _ (infer : Infer) (encoding : Encoding) (files : List SourceFile) (name : List ℕ) (range : Range) where
   -- of files that were checked
   pub of_checked : (names : List (List ℕ)) (P : Program) (s : List Qualifier) (tokens : List (List Token)) (trees : List FileTree) (rows : List Row) (actions : List Action)
       → ((tree : FileTree) → forget_file (placed_file tree) ≡ file_view tree)
       → (typed : TypedProgramOf infer files names P) → typed.of_files.trees ≡ map placed_file trees → tokens ≡ typed.of_files.tokens
       → IsLeastSignature P s → AreBroken P s rows
-      → AreOfRules files name range names tokens (map file_view trees) P s rows actions → AreActions infer files name range actions
+      → AreOfRules encoding files name range names tokens (map file_view trees) P s rows actions → AreActions infer encoding files name range actions
   of_checked names P s tokens trees rows actions view typed these same least broken are =
       let checked : IsCheckedBy infer files rows = record { names = names; P = P; of_files = typed; rules = record { signature = s; least = least; broken = broken.all; breaks = broken.broken; order = broken.ordered } } in
       let forgotten : map file_view trees ≡ map forget_file typed.of_files.trees = views view trees ∙ ap (map forget_file) (sym these) in
       record {
         report = Checked rows;
         is = checked;
-        offered = (checked, subst (λ (ts : List SourceTree). AreOfRules files name range names typed.of_files.tokens ts P s rows actions) forgotten (subst (λ (tss : List (List Token)). AreOfRules files name range names tss (map file_view trees) P s rows actions) same are));
+        offered = (checked, subst (λ (ts : List SourceTree). AreOfRules encoding files name range names typed.of_files.tokens ts P s rows actions) forgotten (subst (λ (tss : List (List Token)). AreOfRules encoding files name range names tss (map file_view trees) P s rows actions) same are));
       }
 
   -- of files that are refused
-  pub of_refused : (rows : List Row) (actions : List Action) → IsPhase infer files rows → actions ≡ [] → AreActions infer files name range actions
+  pub of_refused : (rows : List Row) (actions : List Action) → IsPhase infer files rows → actions ≡ [] → AreActions infer encoding files name range actions
   of_refused rows actions phase none = record { report = Refused rows; is = phase; offered = none }

@@ -12,6 +12,7 @@ use Rattle.jn_base.specs.declared.place.Row.{Row}
 use Rattle.jn_front.specs.declared.source.SourceFile.{SourceFile}
 use Rattle.jn_inference_law.specs.Solution.{IsLeastSignature}
 use Rattle.jn_lsp_text.specs.Positions.{position_at}
+use Rattle.jn_lsp_text.specs.declared.encoding.Encoding.{Encoding}
 use Rattle.jn_lsp_text.specs.declared.position.Position.{Position}
 use Rattle.jn_lsp_text.specs.declared.range.Range.{Range}
 use Rattle.jn_lsp_text.specs.declared.reply.Hint.{Hint}
@@ -27,14 +28,14 @@ use Rattle.jn_lsp_actions.specs.Hinted.{AreHints, hint_at, hint_of, hints_of, is
 use Rattle.jn_lsp_actions.proofs.Offering.{views}
 
 -- one put more
-pub shown_more : (text : List ℕ) (range : Range) (puts : List Put) (i : ℕ) (d : Put) (at : Position) (old new : List Hint) → i < length puts
-    → at ≡ position_at text (get_or puts i d).at → new ≡ old ++ filter (is_shown range) (hint_of at (get_or puts i d).words ∷ [])
-    → old ≡ shown text range (insertions (take i puts)) → new ≡ shown text range (insertions (take (i + 1) puts))
-shown_more text range puts i d at old new lt is e before =
+pub shown_more : (encoding : Encoding) (text : List ℕ) (range : Range) (puts : List Put) (i : ℕ) (d : Put) (at : Position) (old new : List Hint) → i < length puts
+    → at ≡ position_at encoding text (get_or puts i d).at → new ≡ old ++ filter (is_shown range) (hint_of at (get_or puts i d).words ∷ [])
+    → old ≡ shown encoding text range (insertions (take i puts)) → new ≡ shown encoding text range (insertions (take (i + 1) puts))
+shown_more encoding text range puts i d at old new lt is e before =
     e ∙ (λ j. before j ++ filter (is_shown range) (hint_of (is j) (get_or puts i d).words ∷ []))
-    ∙ sym (filter-append (is_shown range) (map (hint_at text) (insertions (take i puts))) (hint_at text (insertion (get_or puts i d)) ∷ []))
-    ∙ ap (filter (is_shown range)) (sym (map-append (hint_at text) (insertions (take i puts)) (insertion (get_or puts i d) ∷ [])))
-    ∙ ap (shown text range) (sym (map-append insertion (take i puts) (get_or puts i d ∷ [])) ∙ ap insertions (sym (take_more puts i d lt)))
+    ∙ sym (filter-append (is_shown range) (map (hint_at encoding text) (insertions (take i puts))) (hint_at encoding text (insertion (get_or puts i d)) ∷ []))
+    ∙ ap (filter (is_shown range)) (sym (map-append (hint_at encoding text) (insertions (take i puts)) (insertion (get_or puts i d) ∷ [])))
+    ∙ ap (shown encoding text range) (sym (map-append insertion (take i puts) (get_or puts i d ∷ [])) ∙ ap insertions (sym (take_more puts i d lt)))
 
 -- where a type is shared, and where none is
 pub some_shared : (n : ℕ) (slots : List ℕ) (found hints : List Hint) → IsLeast (Some n) slots → found ≡ [] → found ≡ unless_shared slots hints
@@ -44,16 +45,16 @@ some_shared n (slot ∷ slots) found hints h e = e
 pub none_shared : (slots : List ℕ) (found hints : List Hint) → IsLeast None slots → found ≡ hints → found ≡ unless_shared slots hints
 none_shared slots found hints none e = e ∙ ap (λ (ns : List ℕ). unless_shared ns hints) (sym none)
 
-module _ (infer : Infer) (files : List SourceFile) (name : List ℕ) (range : Range) where
+module _ (infer : Infer) (encoding : Encoding) (files : List SourceFile) (name : List ℕ) (range : Range) where
   -- of files that are refused, and of those that aren't
-  pub of_refused : (rows : List Row) (hints : List Hint) → IsPhase infer files rows → hints ≡ [] → AreHints infer files name range hints
+  pub of_refused : (rows : List Row) (hints : List Hint) → IsPhase infer files rows → hints ≡ [] → AreHints infer encoding files name range hints
   of_refused rows hints phase none = inl (rows, phase, none)
 
   pub of_inferred : (names : List (List ℕ)) (P : Program) (s : List Qualifier) (tokens : List (List Token)) (trees : List FileTree) (hints : List Hint)
       → ((tree : FileTree) → forget_file (placed_file tree) ≡ file_view tree)
       → (typed : TypedProgramOf infer files names P) → typed.of_files.trees ≡ map placed_file trees → tokens ≡ typed.of_files.tokens
       → IsLeastSignature P s
-      → hints ≡ hints_of name range files tokens (map file_view trees) P s → AreHints infer files name range hints
+      → hints ≡ hints_of encoding name range files tokens (map file_view trees) P s → AreHints infer encoding files name range hints
   of_inferred names P s tokens trees hints view typed these same least are =
       let forgotten : map file_view trees ≡ map forget_file typed.of_files.trees = views view trees ∙ ap (map forget_file) (sym these) in
       inr (record {
@@ -62,5 +63,5 @@ module _ (infer : Infer) (files : List SourceFile) (name : List ℕ) (range : Ra
         of_files = typed;
         signature = s;
         least = least;
-        are = are ∙ (λ i. hints_of name range files (same i) (forgotten i) P s);
+        are = are ∙ (λ i. hints_of encoding name range files (same i) (forgotten i) P s);
       })

@@ -3,6 +3,7 @@ use Rattle.std.specs.Prelude.{ℕ, ◌≡◌, Bool, true, false, bytes_eq, List,
 use Rattle.jn_base.specs.declared.infer.Infer.{Infer}
 use Rattle.jn_annotate.specs.Annotated.{Annotated}
 use Rattle.jn_front.specs.declared.source.SourceFile.{SourceFile}
+use Rattle.jn_lsp_text.specs.declared.encoding.Encoding.{Encoding}
 use Rattle.jn_lsp_text.specs.declared.range.Range.{Range}
 use Rattle.jn_lsp_text.specs.declared.reply.Hint.{Hint}
 use Rattle.jn_places.specs.Forget.{forget_file}
@@ -13,24 +14,24 @@ abbrev pub text_of : SourceFile → List ℕ
 text_of file = file.bytes
 
 -- these hints are, of the words that a new text has more, those in the range
-pub record AreAdded (range : Range) (text new : List ℕ) (hints : List Hint) : Type 0 where
+pub record AreAdded (encoding : Encoding) (range : Range) (text new : List ℕ) (hints : List Hint) : Type 0 where
   pub words : List Words
   pub put : new ≡ inserted text words
-  pub are : hints ≡ shown text range words
+  pub are : hints ≡ shown encoding text range words
 
 abbrev pub Either : Bool → Type 0 → Type 0 → Type 0
 Either true one other = one
 Either false one other = other
 
 -- the same of the first file of a name; none where there is no such file
-abbrev pub AreAddedIn : List ℕ → Range → List SourceFile → List (List ℕ) → List Hint → Type 0
-AreAddedIn name range [] new hints = hints ≡ []
-AreAddedIn name range (file ∷ files) [] hints = hints ≡ []
-AreAddedIn name range (file ∷ files) (text ∷ new) hints = Either (bytes_eq file.name name) (AreAdded range file.bytes text hints) (AreAddedIn name range files new hints)
+abbrev pub AreAddedIn : Encoding → List ℕ → Range → List SourceFile → List (List ℕ) → List Hint → Type 0
+AreAddedIn encoding name range [] new hints = hints ≡ []
+AreAddedIn encoding name range (file ∷ files) [] hints = hints ≡ []
+AreAddedIn encoding name range (file ∷ files) (text ∷ new) hints = Either (bytes_eq file.name name) (AreAdded encoding range file.bytes text hints) (AreAddedIn encoding name range files new hints)
 
 -- where files have annotated texts, without lines that import annotations
 abbrev pub AreOfAnnotated : Type 0
 AreOfAnnotated =
-    (infer : Infer) (files : List SourceFile) (name : List ℕ) (range : Range) (hints : List Hint) (new : List (List ℕ)) (of : AreInferred infer files name range hints)
+    (infer : Infer) (encoding : Encoding) (files : List SourceFile) (name : List ℕ) (range : Range) (hints : List Hint) (new : List (List ℕ)) (of : AreInferred infer encoding files name range hints)
     → Annotated false of.P of.signature (map text_of files) of.of_files.of_files.tokens (map forget_file of.of_files.of_files.trees) new
-    → AreAddedIn name range files new hints
+    → AreAddedIn encoding name range files new hints

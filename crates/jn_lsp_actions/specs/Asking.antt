@@ -2,6 +2,7 @@
 use Rattle.std.specs.Prelude.{ℕ, ◌==◌, Bool, false, not, ◌&&◌, ◌||◌, nat_lt, bytes_eq, List, Option, Some, None, slice_get}
 use Rattle.jn_base.specs.declared.place.Span.{Span}
 use Rattle.jn_front.specs.declared.source.SourceFile.{SourceFile}
+use Rattle.jn_lsp_text.specs.declared.encoding.Encoding.{Encoding}
 use Rattle.jn_lsp_text.specs.declared.position.Position.{Position}
 use Rattle.jn_lsp_text.specs.declared.range.Range.{Range}
 use Rattle.jn_lsp_text.specs.Ranges.{range_at}
@@ -13,9 +14,9 @@ is_before one other = nat_lt one.line other.line || (one.line == other.line && n
 abbrev pub meets : Range → Range → Bool
 meets one other = not (is_before one.end other.start) && not (is_before other.end one.start)
 
-abbrev pub is_asked_in : List ℕ → Range → Span → Option SourceFile → Bool
-is_asked_in name range span None = false
-is_asked_in name range span (Some file) = bytes_eq file.name name && meets (range_at file.bytes span.from span.to) range
+abbrev pub is_asked_in : Encoding → List ℕ → Range → Span → Option SourceFile → Bool
+is_asked_in encoding name range span None = false
+is_asked_in encoding name range span (Some file) = bytes_eq file.name name && meets (range_at encoding file.bytes span.from span.to) range
 
-abbrev pub is_asked : List SourceFile → List ℕ → Range → Span → Bool
-is_asked files name range span = is_asked_in name range span (slice_get files span.file.0)
+abbrev pub is_asked : Encoding → List SourceFile → List ℕ → Range → Span → Bool
+is_asked encoding files name range span = is_asked_in encoding name range span (slice_get files span.file.0)

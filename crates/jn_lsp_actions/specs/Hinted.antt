@@ -9,6 +9,7 @@ use Rattle.jn_annotate.specs.Shared.{shared_slots}
 use Rattle.jn_front.specs.declared.source.SourceFile.{SourceFile}
 use Rattle.jn_inference_law.specs.Solution.{IsLeastSignature}
 use Rattle.jn_lsp_text.specs.Positions.{position_at}
+use Rattle.jn_lsp_text.specs.declared.encoding.Encoding.{Encoding}
 use Rattle.jn_lsp_text.specs.declared.position.Position.{Position}
 use Rattle.jn_lsp_text.specs.declared.range.Range.{Range}
 use Rattle.jn_lsp_text.specs.declared.reply.Hint.{Hint}
@@ -46,8 +47,8 @@ hint_of at words = record {
   space_behind = ends_with nat_eq words space;
 }
 
-abbrev pub hint_at : List ℕ → Words → Hint
-hint_at text words = hint_of (position_at text words.at) words.words
+abbrev pub hint_at : Encoding → List ℕ → Words → Hint
+hint_at encoding text words = hint_of (position_at encoding text words.at) words.words
 
 -- an end of a range is in it
 abbrev pub is_within : Range → Position → Bool
@@ -57,8 +58,8 @@ abbrev pub is_shown : Range → Hint → Bool
 is_shown range hint = is_within range hint.at
 
 -- of words that are put into a text, those in a range
-abbrev pub shown : List ℕ → Range → List Words → List Hint
-shown text range words = filter (is_shown range) (map (hint_at text) words)
+abbrev pub shown : Encoding → List ℕ → Range → List Words → List Hint
+shown encoding text range words = filter (is_shown range) (map (hint_at encoding text) words)
 
 -- ---- words of files
 
@@ -67,7 +68,7 @@ abbrev pub unless_shared : List ℕ → List Hint → List Hint
 unless_shared [] hints = hints
 unless_shared (slot ∷ shared) hints = []
 
-module _ (name : List ℕ) (range : Range) where
+module _ (encoding : Encoding) (name : List ℕ) (range : Range) where
   module _ (slots : List SlotInfo) (s : List Qualifier) where
     -- in the first file of the name; the first fields and methods are those that the files declare
     abbrev pub shown_in : List SourceFile → List (List Token) → List SourceTree → List Field → List Method → List Hint
@@ -75,14 +76,14 @@ module _ (name : List ℕ) (range : Range) where
     shown_in (file ∷ files) [] trees fields methods = []
     shown_in (file ∷ files) (ts ∷ tokens) [] fields methods = []
     shown_in (file ∷ files) (ts ∷ tokens) (tree ∷ trees) fields methods =
-        if bytes_eq file.name name then shown file.bytes range (in_file slots s file.bytes ts tree fields methods)
+        if bytes_eq file.name name then shown encoding file.bytes range (in_file slots s file.bytes ts tree fields methods)
         else shown_in files tokens trees (drop (file_fields tree.types) fields) (drop (file_methods tree.types) methods)
 
   -- those of files with this program, under its signature, for each inferred slot that an annotation says
   abbrev pub hints_of : List SourceFile → List (List Token) → List SourceTree → Program → List Qualifier → List Hint
   hints_of files tokens trees P s = unless_shared (shared_slots P s trees P.fields) (shown_in (spelled s P.slots) s files tokens trees P.fields (drop 1 P.methods))
 
-module _ (infer : Infer) (files : List SourceFile) (name : List ℕ) (range : Range) where
+module _ (infer : Infer) (encoding : Encoding) (files : List SourceFile) (name : List ℕ) (range : Range) where
   -- those of files that no phase refuses, under the least signature of their program
   pub record AreInferred (hints : List Hint) : Type 0 where
     pub names : List (List ℕ)
@@ -90,7 +91,7 @@ module _ (infer : Infer) (files : List SourceFile) (name : List ℕ) (range : Ra
     pub of_files : TypedProgramOf infer files names P
     pub signature : List Qualifier
     pub least : IsLeastSignature P signature
-    pub are : hints ≡ hints_of name range files of_files.of_files.tokens (map forget_file of_files.of_files.trees) P signature
+    pub are : hints ≡ hints_of encoding name range files of_files.of_files.tokens (map forget_file of_files.of_files.trees) P signature
 
   -- refused files get none
   abbrev pub AreHints : List Hint → Type 0

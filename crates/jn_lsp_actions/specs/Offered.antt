@@ -19,6 +19,7 @@ use Rattle.jn_trees.specs.Trees.{SourceTree}
 use Rattle.jn_annotate.specs.Shared.{shared_slots}
 use Rattle.jn_notes.specs.Asked.{item_of}
 use Rattle.jn_notes.specs.Noted.{AreLeastTables}
+use Rattle.jn_lsp_text.specs.declared.encoding.Encoding.{Encoding}
 use Rattle.jn_lsp_text.specs.declared.range.Range.{Range}
 use Rattle.jn_lsp_text.specs.declared.reply.Action.{Action}
 use Rattle.jn_report.specs.Report.{IsCheckedBy, IsReport}
@@ -81,9 +82,9 @@ module _ (give : ℕ → List Action) where
   given [] = []
   given (slot ∷ slots) = given_here slot slots ++ given slots
 
-module _ (files : List SourceFile) (name : List ℕ) (range : Range) where
+module _ (encoding : Encoding) (files : List SourceFile) (name : List ℕ) (range : Range) where
   abbrev pub is_asked_row : Row → Bool
-  is_asked_row row = is_asked files name range row.span
+  is_asked_row row = is_asked encoding files name range row.span
 
   module _ (names : List (List ℕ)) (tokens : List (List Token)) (trees : List SourceTree) (P : Program) (s : List Qualifier) where
     -- those of files with this program and its least signature, of which these are the rows of the rules
@@ -91,8 +92,8 @@ module _ (files : List SourceFile) (name : List ℕ) (range : Range) where
       pub tables : List Table
       pub solved : AreLeastTables P s tables
       pub slots : List (Option ℕ)
-      pub each : AreSlotsOf P s tables (is_written files tokens trees P s) is_asked_row rows slots
-      pub are : actions ≡ given (give files names tokens trees P s Inferred) slots
+      pub each : AreSlotsOf P s tables (is_written encoding files tokens trees P s) is_asked_row rows slots
+      pub are : actions ≡ given (give encoding files names tokens trees P s Inferred) slots
 
     -- none where a field shares its type with one of another qualifier, as there is no annotating then
     abbrev pub AreUnlessShared : List ℕ → List Row → List Action → Type 0
@@ -107,7 +108,7 @@ module _ (files : List SourceFile) (name : List ℕ) (range : Range) where
     pub record AreNulls (rows : List Row) (actions : List Action) : Type 0 where
       pub tables : List Table
       pub solved : AreLeastTables P s tables
-      pub are : actions ≡ given (give files names tokens trees P s Null) (rows_want P s tables is_asked_row rows)
+      pub are : actions ≡ given (give encoding files names tokens trees P s Null) (rows_want P s tables is_asked_row rows)
 
     -- the first, and then the others
     pub record AreOfRules (rows : List Row) (actions : List Action) : Type 0 where
@@ -117,11 +118,11 @@ module _ (files : List SourceFile) (name : List ℕ) (range : Range) where
       pub of_nulls : AreNulls rows nulls
       pub are : actions ≡ inferred ++ nulls
 
-module _ (infer : Infer) (files : List SourceFile) (name : List ℕ) (range : Range) where
+module _ (infer : Infer) (encoding : Encoding) (files : List SourceFile) (name : List ℕ) (range : Range) where
   -- those of a report: refused files get none
   abbrev pub AreOffered : Report → List Action → Type 0
   AreOffered (Refused rows) actions = actions ≡ []
-  AreOffered (Checked rows) actions = (checked : IsCheckedBy infer files rows) × AreOfRules files name range checked.names checked.of_files.of_files.tokens (map forget_file checked.of_files.of_files.trees) checked.P checked.rules.signature rows actions
+  AreOffered (Checked rows) actions = (checked : IsCheckedBy infer files rows) × AreOfRules encoding files name range checked.names checked.of_files.of_files.tokens (map forget_file checked.of_files.of_files.trees) checked.P checked.rules.signature rows actions
 
   -- those of the files' report, where these members are inferred
   pub record AreActions (actions : List Action) : Type 0 where

@@ -20,6 +20,7 @@ use Rattle.jn_annotate.specs.Taken.{declares}
 use Rattle.jn_note_words.specs.Owned.{owner_of}
 use Rattle.jn_note_words.specs.Worded.{owner_words}
 use Rattle.jn_lsp_text.specs.Positions.{position_at}
+use Rattle.jn_lsp_text.specs.declared.encoding.Encoding.{Encoding}
 use Rattle.jn_lsp_text.specs.declared.reply.Action.{Action}
 use Rattle.jn_lsp_text.specs.declared.reply.Insertion.{Insertion}
 use Rattle.jn_lsp_actions.specs.declared.edits.Edit.{Edit}
@@ -29,13 +30,13 @@ use Rattle.jn_lsp_actions.specs.Alone.{alone}
 use Rattle.jn_lsp_actions.specs.Nulls.{null_file}
 
 -- words at their position; what is no UTF-8 in them is replaced
-abbrev pub insertion_at : List ℕ → Words → Insertion
-insertion_at text words = record { at = position_at text words.at; text = utf8_lossy words.words }
+abbrev pub insertion_at : Encoding → List ℕ → Words → Insertion
+insertion_at encoding text words = record { at = position_at encoding text words.at; text = utf8_lossy words.words }
 
 -- no edit where there are no words
-abbrev pub edit_of : SourceFile → List Words → Option Edit
-edit_of file [] = None
-edit_of file (first ∷ more) = Some (record { name = file.name; insertions = map (insertion_at file.bytes) (first ∷ more) })
+abbrev pub edit_of : Encoding → SourceFile → List Words → Option Edit
+edit_of encoding file [] = None
+edit_of encoding file (first ∷ more) = Some (record { name = file.name; insertions = map (insertion_at encoding file.bytes) (first ∷ more) })
 
 abbrev pub or_edit : Option Edit → Option Edit → Option Edit
 or_edit None other = other
@@ -52,18 +53,18 @@ module _ (writing : Writing) (slot : ℕ) (slots : List SlotInfo) (s : List Qual
   words_in file tokens tree fields methods = with_lines true file.bytes tokens tree (words_of writing slot slots s file tokens tree fields methods)
 
   -- of the first file that gets words
-  abbrev pub first_edit : List SourceFile → List (List Token) → List SourceTree → List Field → List Method → Option Edit
-  first_edit [] tokens trees fields methods = None
-  first_edit (file ∷ files) [] trees fields methods = None
-  first_edit (file ∷ files) (ts ∷ tokens) [] fields methods = None
-  first_edit (file ∷ files) (ts ∷ tokens) (tree ∷ trees) fields methods = or_edit (edit_of file (words_in file ts tree fields methods)) (first_edit files tokens trees (drop (file_fields tree.types) fields) (drop (file_methods tree.types) methods))
+  abbrev pub first_edit : Encoding → List SourceFile → List (List Token) → List SourceTree → List Field → List Method → Option Edit
+  first_edit encoding [] tokens trees fields methods = None
+  first_edit encoding (file ∷ files) [] trees fields methods = None
+  first_edit encoding (file ∷ files) (ts ∷ tokens) [] fields methods = None
+  first_edit encoding (file ∷ files) (ts ∷ tokens) (tree ∷ trees) fields methods = or_edit (edit_of encoding file (words_in file ts tree fields methods)) (first_edit encoding files tokens trees (drop (file_fields tree.types) fields) (drop (file_methods tree.types) methods))
 
-module _ (files : List SourceFile) (tokens : List (List Token)) (trees : List SourceTree) (P : Program) (s : List Qualifier) where
+module _ (encoding : Encoding) (files : List SourceFile) (tokens : List (List Token)) (trees : List SourceTree) (P : Program) (s : List Qualifier) where
   -- what is written of a slot. What is inferred of it isn't where it isn't inferred, no annotation says it, or it has no words of its own since those of
   -- another field of its declaration are its words, too; null isn't where a type of the files has the annotation's name
   abbrev pub edit_of_slot : Writing → ℕ → Option Edit
-  edit_of_slot Inferred slot = cond (is_unspelled (slice_index_or s slot no_qual)) None (first_edit Inferred slot (alone slot P.slots) s files tokens trees P.fields (drop 1 P.methods))
-  edit_of_slot Null slot = cond (declares trees nullable_name) None (first_edit Null slot P.slots s files tokens trees P.fields (drop 1 P.methods))
+  edit_of_slot Inferred slot = cond (is_unspelled (slice_index_or s slot no_qual)) None (first_edit Inferred slot (alone slot P.slots) s encoding files tokens trees P.fields (drop 1 P.methods))
+  edit_of_slot Null slot = cond (declares trees nullable_name) None (first_edit Null slot P.slots s encoding files tokens trees P.fields (drop 1 P.methods))
 
   abbrev pub is_written : ℕ → Bool
   is_written slot = is_some (edit_of_slot Inferred slot)
@@ -84,5 +85,5 @@ actions_of title None = []
 actions_of title (Some edit) = action_of title edit ∷ []
 
 -- what is given for a slot
-abbrev pub give : List SourceFile → List (List ℕ) → List (List Token) → List SourceTree → Program → List Qualifier → Writing → ℕ → List Action
-give files names tokens trees P s writing slot = actions_of (title_of P names writing slot) (edit_of_slot files tokens trees P s writing slot)
+abbrev pub give : Encoding → List SourceFile → List (List ℕ) → List (List Token) → List SourceTree → Program → List Qualifier → Writing → ℕ → List Action
+give encoding files names tokens trees P s writing slot = actions_of (title_of P names writing slot) (edit_of_slot encoding files tokens trees P s writing slot)

@@ -5,7 +5,7 @@ ghost use Rattle.jn_lsp_actions.specs.Asking as spec;
 
 use jn_base::Span;
 use jn_front::SourceFile;
-use jn_lsp_text::{Position, Range, range_of};
+use jn_lsp_text::{Encoding, Position, Range, range_of};
 
 fn is_before(one: Position, other: Position) -> bool
     ensures { result ≡ spec.is_before one other }
@@ -21,20 +21,30 @@ pub fn meets(one: Range, other: Range) -> bool
 }
 
 /// Whether what stands at the span of the file is asked for: in a file of this name, in a range that meets this one.
-fn is_asked_in(file: &SourceFile, name: &str, range: Range, span: Span) -> bool
+fn is_asked_in(encoding: Encoding, file: &SourceFile, name: &str, range: Range, span: Span) -> bool
     requires small { length file.now.bytes < 2 ^ 30 }
-    ensures { result ≡ spec.is_asked_in name.now range span (Some file.now) }
+    ensures { result ≡ spec.is_asked_in encoding name.now range span (Some file.now) }
 {
-    file.name.as_str() == name && meets(range_of(file.bytes.as_slice(), span.from, span.to), range)
+    file.name.as_str() == name
+        && meets(
+            range_of(encoding, file.bytes.as_slice(), span.from, span.to),
+            range,
+        )
 }
 
 /// Whether what stands at the span is asked for: in a file of this name, in a range that meets this one.
-pub fn is_asked(files: &[SourceFile], name: &str, range: Range, span: Span) -> bool
+pub fn is_asked(
+    encoding: Encoding,
+    files: &[SourceFile],
+    name: &str,
+    range: Range,
+    span: Span,
+) -> bool
     requires fit { AllFit files.now }
-    ensures { result ≡ spec.is_asked files.now name.now range span }
+    ensures { result ≡ spec.is_asked encoding files.now name.now range span }
 {
     match files.get(span.file.0 as usize) {
         None => false,
-        Some(file) => is_asked_in(file, name, range, span),
+        Some(file) => is_asked_in(encoding, file, name, range, span),
     }
 }

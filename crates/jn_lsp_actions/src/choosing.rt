@@ -18,7 +18,7 @@ use jn_base::{Infer, OutOfMemory, Row};
 use jn_chain::first_chain;
 use jn_contrib::Overrider;
 use jn_env::FlowTable;
-use jn_lsp_text::Range;
+use jn_lsp_text::{Encoding, Range};
 use jn_notes::explain::item_of;
 use jn_origins::LeastOrigins;
 use jn_origins::law::what_stands_has_a_chain;
@@ -30,6 +30,8 @@ use std::alloc::Global;
 pub struct Asked<'a> {
     /// The members that are inferred.
     pub infer: Infer,
+    /// The unit of positions.
+    pub encoding: Encoding,
     pub name: &'a str,
     pub range: Range,
 }
@@ -38,7 +40,7 @@ pub struct Asked<'a> {
 fn first_slot(steps: &[Step], alloc: Global, solved: &Solved) -> Result<Option<u32>, OutOfMemory>
     requires fit { AllFit solved.now.files.now }
     ensures { IfOk result (λ slot. slot
-        ≡ spec.first_slot (is_written solved.now.files.now solved.now.tokens.now
+        ≡ spec.first_slot (is_written solved.now.encoding solved.now.files.now solved.now.tokens.now
         (map file_view solved.now.trees.now) solved.now.program.now solved.now.sig.now) steps.now) }
 {
     match steps {
@@ -67,7 +69,7 @@ fn slot_from(
     requires chain { HasChain origins.now.program origins.now.sig origins.now.tables item }
     ensures { IfOk result (λ slot.
         spec.IsSlotFrom origins.now.program origins.now.sig origins.now.tables
-        (is_written solved.now.files.now solved.now.tokens.now
+        (is_written solved.now.encoding solved.now.files.now solved.now.tokens.now
         (map file_view solved.now.trees.now) solved.now.program.now solved.now.sig.now)
         (Some item) slot) }
 {
@@ -94,7 +96,7 @@ fn slot_of_asked(
     requires tables { origins.now.tables ≡ tables.now }
     ensures { IfOk result (λ slot.
         spec.IsSlotFrom solved.now.program.now solved.now.sig.now tables.now
-        (is_written solved.now.files.now solved.now.tokens.now
+        (is_written solved.now.encoding solved.now.files.now solved.now.tokens.now
         (map file_view solved.now.trees.now) solved.now.program.now solved.now.sig.now)
         (item_of_row solved.now.program.now solved.now.sig.now row tables.now) slot) }
 {
@@ -125,12 +127,18 @@ fn slot_of(
     requires tables { origins.now.tables ≡ tables.now }
     ensures { IfOk result (λ slot.
         spec.IsSlotOf solved.now.program.now solved.now.sig.now tables.now
-        (is_written solved.now.files.now solved.now.tokens.now
+        (is_written solved.now.encoding solved.now.files.now solved.now.tokens.now
         (map file_view solved.now.trees.now) solved.now.program.now solved.now.sig.now)
-        (spec.is_asked_row solved.now.files.now asked.now.name.now asked.now.range)
+        (spec.is_asked_row solved.now.encoding solved.now.files.now asked.now.name.now asked.now.range)
         row slot) }
 {
-    if is_asked(solved.files, asked.name, asked.range, row.span) {
+    if is_asked(
+        solved.encoding,
+        solved.files,
+        asked.name,
+        asked.range,
+        row.span,
+    ) {
         slot_of_asked(alloc, solved, tables, overriders, origins, row)
     } else {
         Ok(None)
@@ -160,9 +168,9 @@ pub fn slots_of(
     requires tables { origins.now.tables ≡ tables.now }
     ensures { IfOk result (λ slots.
         spec.AreSlotsOf solved.now.program.now solved.now.sig.now tables.now
-        (is_written solved.now.files.now solved.now.tokens.now
+        (is_written solved.now.encoding solved.now.files.now solved.now.tokens.now
         (map file_view solved.now.trees.now) solved.now.program.now solved.now.sig.now)
-        (spec.is_asked_row solved.now.files.now asked.now.name.now asked.now.range)
+        (spec.is_asked_row solved.now.encoding solved.now.files.now asked.now.name.now asked.now.range)
         rows.now slots.items) }
 {
     let mut slots = Vec::new(alloc);

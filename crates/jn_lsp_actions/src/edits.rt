@@ -18,7 +18,7 @@ use jn_annotate::words::is_unspelled;
 use jn_base::{OutOfMemory, Seq, SlotNo, Text};
 use jn_front::SourceFile;
 use jn_known::NULLABLE;
-use jn_lsp_text::{Action, Insertion, Position, position_of};
+use jn_lsp_text::{Action, Encoding, Insertion, Position, position_of};
 use jn_note_words::owners::{Owner, owner_at};
 use jn_note_words::words::owner_words;
 use jn_points::{Field, Method, Program};
@@ -40,9 +40,10 @@ pub struct Edit {
     pub insertions: Seq<Insertion>,
 }
 
-/// Files, with the tokens and trees of each, with their program, the texts of its names, its least signature, and whose slots are whose.
+/// Files, with the tokens and trees of each, with their program, the texts of its names, its least signature, whose slots are whose, and the unit of positions.
 #[derive(Drop)]
 pub struct Solved<'a> {
+    pub encoding: Encoding,
     pub files: &'a [SourceFile],
     pub tokens: &'a [Seq<Token>],
     pub trees: &'a [FileTree],
@@ -53,44 +54,59 @@ pub struct Solved<'a> {
 }
 
 /// The position of a byte; that of the text's end where the text is shorter.
-fn position_within(text: &[u8], at: usize) -> Position
+fn position_within(encoding: Encoding, text: &[u8], at: usize) -> Position
     requires small { length text.now < 2 ^ 30 }
-    ensures { result ≡ position_at text.now at }
+    ensures { result ≡ position_at encoding text.now at }
 {
-    position_of(text, at.min(text.len()))
+    position_of(encoding, text, at.min(text.len()))
 }
 
-fn insertion_of(alloc: Global, text: &[u8], put: &Put) -> Result<Insertion, AllocError>
+fn insertion_of(
+    alloc: Global,
+    encoding: Encoding,
+    text: &[u8],
+    put: &Put,
+) -> Result<Insertion, AllocError>
     requires small { length text.now < 2 ^ 30 }
-    ensures { IfOk result (λ made. made ≡ spec.insertion_at text.now (insertion put.now)) }
+    ensures { IfOk result (λ made. made ≡ spec.insertion_at encoding text.now (insertion put.now)) }
 {
     Ok(Insertion {
-        at: position_within(text, put.at),
+        at: position_within(encoding, text, put.at),
         text: Text::of_string(String::from_utf8_lossy(alloc, put.words.as_slice())?),
     })
 }
 
-fn insertions_of(alloc: Global, text: &[u8], puts: &[Put]) -> Result<Seq<Insertion>, AllocError>
+fn insertions_of(
+    alloc: Global,
+    encoding: Encoding,
+    text: &[u8],
+    puts: &[Put],
+) -> Result<Seq<Insertion>, AllocError>
     requires small { length text.now < 2 ^ 30 }
-    ensures { IfOk result (λ made. made ≡ map (spec.insertion_at text.now) (insertions puts.now)) }
+    ensures { IfOk result (λ made. made ≡ map (spec.insertion_at encoding text.now) (insertions puts.now)) }
 {
     let mut made = Seq::new(alloc);
     for put in puts {
-        made.push(insertion_of(alloc, text, put)?)?;
+        made.push(insertion_of(alloc, encoding, text, put)?)?;
     }
     Ok(made)
 }
 
 /// The edit of a file that gets these words.
-fn edit_of(alloc: Global, file: &SourceFile, puts: &[Put]) -> Result<Option<Edit>, AllocError>
+fn edit_of(
+    alloc: Global,
+    encoding: Encoding,
+    file: &SourceFile,
+    puts: &[Put],
+) -> Result<Option<Edit>, AllocError>
     requires small { length file.now.bytes < 2 ^ 30 }
-    ensures { IfOk result (λ edit. edit ≡ spec.edit_of file.now (insertions puts.now)) }
+    ensures { IfOk result (λ edit. edit ≡ spec.edit_of encoding file.now (insertions puts.now)) }
 {
     match puts {
         [] => Ok(None),
         [_, ..] => Ok(Some(Edit {
             name: file.name.copy(alloc)?,
-            insertions: insertions_of(alloc, file.bytes.as_slice(), puts)?,
+            insertions: insertions_of(alloc, encoding, file.bytes.as_slice(), puts)?,
         })),
     }
 }
@@ -124,6 +140,7 @@ fn words_of(
 /// The edit of a file that declares the first of these fields and methods.
 fn file_edit(
     alloc: Global,
+    encoding: Encoding,
     writing: Writing,
     slot: u32,
     program: &Program,
@@ -136,7 +153,7 @@ fn file_edit(
 ) -> Result<Option<Edit>, OutOfMemory>
     requires small { length file.now.bytes < 2 ^ 30 }
     ensures { IfOk result (λ edit. edit
-        ≡ spec.edit_of file.now
+        ≡ spec.edit_of encoding file.now
         (spec.words_in writing slot program.now.slots sig.now file.now tokens.now
         (file_view tree.now) fields.now methods.now)) }
 {
@@ -145,13 +162,14 @@ fn file_edit(
         alloc, writing, slot, program, sig, file, tokens, tree, fields, methods,
     )?;
     let puts = with_lines(alloc, true, text, tokens, tree, puts)?;
-    Ok(edit_of(alloc, file, &puts)?)
+    Ok(edit_of(alloc, encoding, file, &puts)?)
 }
 
 /// The edit of the first file that gets words; the first fields and methods are those that the files declare.
 fn first_edit(
     files: &[SourceFile],
     alloc: Global,
+    encoding: Encoding,
     writing: Writing,
     slot: u32,
     program: &Program,
@@ -163,7 +181,7 @@ fn first_edit(
 ) -> Result<Option<Edit>, OutOfMemory>
     requires fit { AllFit files.now }
     ensures { IfOk result (λ edit. edit
-        ≡ spec.first_edit writing slot program.now.slots sig.now files.now tokens.now
+        ≡ spec.first_edit writing slot program.now.slots sig.now encoding files.now tokens.now
         (map file_view trees.now) fields.now methods.now) }
 {
     match files {
@@ -175,13 +193,15 @@ fn first_edit(
                 [tree, other_trees @ ..] => {
                     let first = first.as_slice();
                     let found = file_edit(
-                        alloc, writing, slot, program, sig, file, first, tree, fields, methods,
+                        alloc, encoding, writing, slot, program, sig, file, first, tree, fields,
+                        methods,
                     )?;
                     match found {
                         Some(edit) => Ok(Some(edit)),
                         None => first_edit(
                             other_files,
                             alloc,
+                            encoding,
                             writing,
                             slot,
                             program,
@@ -219,13 +239,14 @@ impl<'a> Solved<'a> {
     ) -> Result<Option<Edit>, OutOfMemory>
         requires fit { AllFit self.now.files.now }
         ensures { IfOk result (λ edit. edit
-            ≡ spec.first_edit writing slot program.now.slots self.now.sig.now self.now.files.now
+            ≡ spec.first_edit writing slot program.now.slots self.now.sig.now self.now.encoding self.now.files.now
             self.now.tokens.now (map file_view self.now.trees.now) self.now.program.now.fields
             (drop 1 self.now.program.now.methods)) }
     {
         first_edit(
             self.files,
             alloc,
+            self.encoding,
             writing,
             slot,
             program,
@@ -241,7 +262,7 @@ impl<'a> Solved<'a> {
     fn inferred_edit(&self, alloc: Global, slot: u32) -> Result<Option<Edit>, OutOfMemory>
         requires fit { AllFit self.now.files.now }
         ensures { IfOk result (λ edit. edit
-            ≡ spec.edit_of_slot self.now.files.now self.now.tokens.now
+            ≡ spec.edit_of_slot self.now.encoding self.now.files.now self.now.tokens.now
             (map file_view self.now.trees.now) self.now.program.now self.now.sig.now Inferred
             slot) }
     {
@@ -256,7 +277,7 @@ impl<'a> Solved<'a> {
     fn null_edit(&self, alloc: Global, slot: u32) -> Result<Option<Edit>, OutOfMemory>
         requires fit { AllFit self.now.files.now }
         ensures { IfOk result (λ edit. edit
-            ≡ spec.edit_of_slot self.now.files.now self.now.tokens.now
+            ≡ spec.edit_of_slot self.now.encoding self.now.files.now self.now.tokens.now
             (map file_view self.now.trees.now) self.now.program.now self.now.sig.now Null slot) }
     {
         if declares(self.trees, NULLABLE) {
@@ -278,7 +299,7 @@ impl<'a> Solved<'a> {
     ) -> Result<Option<Edit>, OutOfMemory>
         requires fit { AllFit self.now.files.now }
         ensures { IfOk result (λ edit. edit
-            ≡ spec.edit_of_slot self.now.files.now self.now.tokens.now
+            ≡ spec.edit_of_slot self.now.encoding self.now.files.now self.now.tokens.now
             (map file_view self.now.trees.now) self.now.program.now self.now.sig.now writing
             slot) }
     {
@@ -295,7 +316,7 @@ impl<'a> Solved<'a> {
     pub fn is_written(&self, alloc: Global, slot: u32) -> Result<bool, OutOfMemory>
         requires fit { AllFit self.now.files.now }
         ensures { IfOk result (λ written. written
-            ≡ spec.is_written self.now.files.now self.now.tokens.now
+            ≡ spec.is_written self.now.encoding self.now.files.now self.now.tokens.now
             (map file_view self.now.trees.now) self.now.program.now self.now.sig.now slot) }
     {
         let edit = self.inferred_edit(alloc, slot)?;
@@ -327,7 +348,7 @@ impl<'a> Solved<'a> {
         requires fit { AllFit self.now.files.now }
         requires owners { AreOwners self.now.program.now self.now.owners.now }
         ensures { IfOk result (λ action. option_to_list action
-            ≡ spec.give self.now.files.now self.now.names.now self.now.tokens.now
+            ≡ spec.give self.now.encoding self.now.files.now self.now.names.now self.now.tokens.now
             (map file_view self.now.trees.now) self.now.program.now self.now.sig.now writing
             slot) }
     {

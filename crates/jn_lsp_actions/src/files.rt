@@ -25,7 +25,7 @@ use jn_env::FlowTable;
 use jn_front::{SourceFile, SourceRead, lex_all};
 use jn_index::BaseTyped;
 use jn_index::indexed::IndexedProgram;
-use jn_lsp_text::{Action, Range};
+use jn_lsp_text::{Action, Encoding, Range};
 use jn_note_words::owners::find_owners;
 use jn_notes::tables::least_tables;
 use jn_origins::LeastOrigins;
@@ -62,7 +62,7 @@ fn written_at(
     requires solved { AreLeastTables solved.now.program.now solved.now.sig.now tables.now }
     requires overriders { AreOverriders solved.now.program.now overriders.now }
     ensures { IfOk result (λ actions.
-        AreWritten solved.now.files.now asked.now.name.now asked.now.range solved.now.names.now
+        AreWritten solved.now.encoding solved.now.files.now asked.now.name.now asked.now.range solved.now.names.now
         solved.now.tokens.now (map file_view solved.now.trees.now) solved.now.program.now
         solved.now.sig.now rows.now actions) }
 {
@@ -93,7 +93,7 @@ fn unless_shared(
     requires solved { AreLeastTables solved.now.program.now solved.now.sig.now tables.now }
     requires overriders { AreOverriders solved.now.program.now overriders.now }
     ensures { IfOk result (λ actions.
-        AreOfInferred solved.now.files.now asked.now.name.now asked.now.range
+        AreOfInferred solved.now.encoding solved.now.files.now asked.now.name.now asked.now.range
         solved.now.names.now solved.now.tokens.now (map file_view solved.now.trees.now)
         solved.now.program.now solved.now.sig.now rows.now actions) }
 {
@@ -119,11 +119,11 @@ fn put_nulls(
     requires owners { AreOwners solved.now.program.now solved.now.owners.now }
     requires solved { AreLeastTables solved.now.program.now solved.now.sig.now tables.now }
     requires overriders { AreOverriders solved.now.program.now overriders.now }
-    requires inferred { AreOfInferred solved.now.files.now asked.now.name.now asked.now.range
+    requires inferred { AreOfInferred solved.now.encoding solved.now.files.now asked.now.name.now asked.now.range
         solved.now.names.now solved.now.tokens.now (map file_view solved.now.trees.now)
         solved.now.program.now solved.now.sig.now rows.now actions.old }
     ensures { OnOk result
-        (AreOfRules solved.now.files.now asked.now.name.now asked.now.range solved.now.names.now
+        (AreOfRules solved.now.encoding solved.now.files.now asked.now.name.now asked.now.range solved.now.names.now
         solved.now.tokens.now (map file_view solved.now.trees.now) solved.now.program.now
         solved.now.sig.now rows.now actions.new) }
 {
@@ -145,7 +145,7 @@ fn of_rules(
     requires owners { AreOwners solved.now.program.now solved.now.owners.now }
     requires indexed { indexed.now ≡ solved.now.program.now }
     ensures { IfOk result (λ actions.
-        AreOfRules solved.now.files.now asked.now.name.now asked.now.range solved.now.names.now
+        AreOfRules solved.now.encoding solved.now.files.now asked.now.name.now asked.now.range solved.now.names.now
         solved.now.tokens.now (map file_view solved.now.trees.now) solved.now.program.now
         solved.now.sig.now rows.now actions) }
 {
@@ -186,12 +186,13 @@ fn of_solved(
     requires least { IsLeastSignature base.now sig.now }
     requires rows { AreBroken base.now sig.now rows.now }
     ensures { IfOk result (λ actions.
-        AreActions asked.now.infer files.now asked.now.name.now asked.now.range actions) }
+        AreActions asked.now.infer asked.now.encoding files.now asked.now.name.now asked.now.range actions) }
 {
     places_are_forgotten();
     let tokens = lex_all(alloc, reads)?;
     let owners = find_owners(alloc, base.program())?;
     let solved = Solved {
+        encoding: asked.encoding,
         files,
         tokens: &tokens,
         trees,
@@ -225,7 +226,7 @@ fn of_program<R: Threads + Sync, G: Gate + Sync>(
     requires program { (typed : TypedProgramOf asked.now.infer files.now names.now base.now)
         × (typed.of_files.trees ≡ map placed_file trees.now) }
     ensures { IfOk result (λ actions.
-        AreActions asked.now.infer files.now asked.now.name.now asked.now.range actions) }
+        AreActions asked.now.infer asked.now.encoding files.now asked.now.name.now asked.now.range actions) }
 {
     regular_programs_can_be_inferred();
     let indexed = base.indexed();
@@ -254,7 +255,7 @@ fn finish<R: Threads + Sync, G: Gate + Sync>(
     requires typed { IsTypedOr asked.now.infer files.now found.now.names
         (map placed_file found.now.trees.items) found.now.rows found.now.base }
     ensures { IfOk result (λ actions.
-        AreActions asked.now.infer files.now asked.now.name.now asked.now.range actions) }
+        AreActions asked.now.infer asked.now.encoding files.now asked.now.name.now asked.now.range actions) }
 {
     match &found.base {
         None => Ok(Seq::new(alloc)),
@@ -274,7 +275,7 @@ fn finish<R: Threads + Sync, G: Gate + Sync>(
 }
 
 /// The edits that are offered in a range of the file of a name, among files that are checked anew by so many workers, where
-/// these members are inferred. For each row there, the
+/// these members are inferred, and positions count in this unit. For each row there, the
 /// first slot of the row's first chain of causes that is inferred and whose annotation can be written alone gives one edit, once for all rows
 /// that come to that slot; edits stand in the order of the report, each at the last of its rows. An edit puts the words that annotating the
 /// files puts for that slot ([`jn_annotate::annotate`]), with lines that import them where the file doesn't, into the file that declares the
@@ -297,13 +298,14 @@ pub fn actions_for<R: Threads + Sync, G: Gate + Sync>(
     alloc: Global,
     workers: u32,
     infer: Infer,
+    encoding: Encoding,
     files: &[SourceFile],
     name: &str,
     range: Range,
 ) -> Result<Seq<Action>, OutOfMemory>
     requires workers { (1 ≤ workers) × (workers ≤ 16) }
     requires fit { AllFit files.now }
-    ensures { IfOk result (λ actions. AreActions infer files.now name.now range actions) }
+    ensures { IfOk result (λ actions. AreActions infer encoding files.now name.now range actions) }
 {
     if files.len() > MOST_FILES {
         too_many_files(alloc)?;
@@ -319,6 +321,11 @@ pub fn actions_for<R: Threads + Sync, G: Gate + Sync>(
         &reads,
         files,
         &found,
-        &Asked { infer, name, range },
+        &Asked {
+            infer,
+            encoding,
+            name,
+            range,
+        },
     )
 }

@@ -45,7 +45,7 @@ fn given_here(
     requires fit { AllFit solved.now.files.now }
     requires owners { AreOwners solved.now.program.now solved.now.owners.now }
     ensures { IfOk result (λ action. option_to_list action
-        ≡ spec.given_here (give solved.now.files.now solved.now.names.now solved.now.tokens.now
+        ≡ spec.given_here (give solved.now.encoding solved.now.files.now solved.now.names.now solved.now.tokens.now
         (map file_view solved.now.trees.now) solved.now.program.now solved.now.sig.now writing)
         slot slots.now) }
 {
@@ -85,7 +85,7 @@ pub fn put_given(
     requires owners { AreOwners solved.now.program.now solved.now.owners.now }
     ensures { OnOk result (actions.new
         ≡ actions.old
-        ++ spec.given (give solved.now.files.now solved.now.names.now solved.now.tokens.now
+        ++ spec.given (give solved.now.encoding solved.now.files.now solved.now.names.now solved.now.tokens.now
         (map file_view solved.now.trees.now) solved.now.program.now solved.now.sig.now writing)
         slots.now) }
 {

@@ -21,7 +21,7 @@ use jn_annotate::shared::first_shared;
 use jn_base::{Infer, OutOfMemory, Seq};
 use jn_front::{SourceFile, SourceRead, lex_all};
 use jn_index::BaseTyped;
-use jn_lsp_text::{Hint, Range};
+use jn_lsp_text::{Encoding, Hint, Range};
 use jn_phases::{TypedFiles, too_many_files, type_files};
 use jn_places::law::places_are_forgotten;
 use jn_points::{Field, Method, Program};
@@ -37,6 +37,7 @@ use std::thread::Threads;
 /// The hints in a range of a file that declares the first of these fields and methods.
 fn file_hints(
     alloc: Global,
+    encoding: Encoding,
     program: &Program,
     sig: &Sig,
     range: Range,
@@ -48,13 +49,13 @@ fn file_hints(
 ) -> Result<Seq<Hint>, OutOfMemory>
     requires small { length file.now.bytes < 2 ^ 30 }
     ensures { IfOk result (λ hints. hints
-        ≡ spec.shown file.now.bytes range
+        ≡ spec.shown encoding file.now.bytes range
         (in_file program.now.slots sig.now file.now.bytes tokens.now (file_view tree.now)
         fields.now methods.now)) }
 {
     let text = file.bytes.as_slice();
     let puts = file_puts(alloc, program, sig, text, tokens, tree, fields, methods)?;
-    Ok(shown(alloc, text, range, &puts)?)
+    Ok(shown(alloc, encoding, text, range, &puts)?)
 }
 
 /// The hints of the first file of the name; the first fields and methods are those that the files declare.
@@ -71,7 +72,7 @@ fn shown_in(
 ) -> Result<Seq<Hint>, OutOfMemory>
     requires fit { AllFit files.now }
     ensures { IfOk result (λ hints. hints
-        ≡ spec.shown_in asked.now.name.now asked.now.range program.now.slots sig.now files.now
+        ≡ spec.shown_in asked.now.encoding asked.now.name.now asked.now.range program.now.slots sig.now files.now
         tokens.now (map file_view trees.now) fields.now methods.now) }
 {
     match files {
@@ -85,6 +86,7 @@ fn shown_in(
                         let first = first.as_slice();
                         file_hints(
                             alloc,
+                            asked.encoding,
                             program,
                             sig,
                             asked.range,
@@ -125,7 +127,7 @@ fn unshared_hints(
 ) -> Result<Seq<Hint>, OutOfMemory>
     requires fit { AllFit files.now }
     ensures { IfOk result (λ hints. hints
-        ≡ spec.shown_in asked.now.name.now asked.now.range (spelled sig.now program.now.slots)
+        ≡ spec.shown_in asked.now.encoding asked.now.name.now asked.now.range (spelled sig.now program.now.slots)
         sig.now files.now tokens.now (map file_view trees.now) program.now.fields
         (drop 1 program.now.methods)) }
 {
@@ -156,7 +158,7 @@ fn hints_of(
 ) -> Result<Seq<Hint>, OutOfMemory>
     requires fit { AllFit files.now }
     ensures { IfOk result (λ hints. hints
-        ≡ spec.hints_of asked.now.name.now asked.now.range files.now tokens.now
+        ≡ spec.hints_of asked.now.encoding asked.now.name.now asked.now.range files.now tokens.now
         (map file_view trees.now) program.now sig.now) }
 {
     match first_shared(alloc, program, sig, trees)? {
@@ -184,7 +186,7 @@ fn of_solved(
         × (typed.of_files.trees ≡ map placed_file trees.now) }
     requires least { IsLeastSignature base.now sig.now }
     ensures { IfOk result (λ hints.
-        spec.AreHints asked.now.infer files.now asked.now.name.now asked.now.range hints) }
+        spec.AreHints asked.now.infer asked.now.encoding files.now asked.now.name.now asked.now.range hints) }
 {
     places_are_forgotten();
     let tokens = lex_all(alloc, reads)?;
@@ -213,7 +215,7 @@ fn of_program<R: Threads + Sync, G: Gate + Sync>(
     requires program { (typed : TypedProgramOf asked.now.infer files.now names.now base.now)
         × (typed.of_files.trees ≡ map placed_file trees.now) }
     ensures { IfOk result (λ hints.
-        spec.AreHints asked.now.infer files.now asked.now.name.now asked.now.range hints) }
+        spec.AreHints asked.now.infer asked.now.encoding files.now asked.now.name.now asked.now.range hints) }
 {
     regular_programs_can_be_inferred();
     let sig = solve_sig(rt, alloc, base.indexed(), workers, gate)?;
@@ -240,7 +242,7 @@ fn finish<R: Threads + Sync, G: Gate + Sync>(
     requires typed { IsTypedOr asked.now.infer files.now found.now.names
         (map placed_file found.now.trees.items) found.now.rows found.now.base }
     ensures { IfOk result (λ hints.
-        spec.AreHints asked.now.infer files.now asked.now.name.now asked.now.range hints) }
+        spec.AreHints asked.now.infer asked.now.encoding files.now asked.now.name.now asked.now.range hints) }
 {
     match &found.base {
         None => Ok(Seq::new(alloc)),
@@ -260,7 +262,7 @@ fn finish<R: Threads + Sync, G: Gate + Sync>(
 }
 
 /// The words that are shown in a range of the file of a name, where they aren't written, among files whose program is inferred anew by so
-/// many workers, where these members are inferred: those that annotating the files ([`jn_annotate::annotate`]) puts there, but for
+/// many workers, where these members are inferred, and positions count in this unit: those that annotating the files ([`jn_annotate::annotate`]) puts there, but for
 /// lines that import annotations. A worker enters the gate when it takes a file, or infers.
 ///
 /// None is shown of a slot that no annotation says, nor any where the files are refused before their rules, or where a field shares
@@ -274,13 +276,14 @@ pub fn hints_for<R: Threads + Sync, G: Gate + Sync>(
     alloc: Global,
     workers: u32,
     infer: Infer,
+    encoding: Encoding,
     files: &[SourceFile],
     name: &str,
     range: Range,
 ) -> Result<Seq<Hint>, OutOfMemory>
     requires workers { (1 ≤ workers) × (workers ≤ 16) }
     requires fit { AllFit files.now }
-    ensures { IfOk result (λ hints. spec.AreHints infer files.now name.now range hints) }
+    ensures { IfOk result (λ hints. spec.AreHints infer encoding files.now name.now range hints) }
 {
     if files.len() > MOST_FILES {
         too_many_files(alloc)?;
@@ -296,6 +299,11 @@ pub fn hints_for<R: Threads + Sync, G: Gate + Sync>(
         &reads,
         files,
         &found,
-        &Asked { infer, name, range },
+        &Asked {
+            infer,
+            encoding,
+            name,
+            range,
+        },
     )
 }

@@ -7,7 +7,7 @@ use crate::asking::meets;
 use crate::sweep::{place_of, start_of};
 use jn_annotate::insert::Put;
 use jn_base::{Seq, Text};
-use jn_lsp_text::{Hint, Position, Range};
+use jn_lsp_text::{Encoding, Hint, Position, Range};
 use std::alloc::{AllocError, Global};
 
 /// The text without this front, where it has it.
@@ -76,17 +76,18 @@ fn push_within(
 #[tactic(auto, using(crate::proofs::Showing::shown_more))]
 pub fn shown(
     alloc: Global,
+    encoding: Encoding,
     text: &[u8],
     range: Range,
     puts: &[Put],
 ) -> Result<Seq<Hint>, AllocError>
     requires small { length text.now < 2 ^ 30 }
-    ensures { IfOk result (λ hints. hints ≡ spec.shown text.now range (insertions puts.now)) }
+    ensures { IfOk result (λ hints. hints ≡ spec.shown encoding text.now range (insertions puts.now)) }
 {
     let mut hints = Seq::new(alloc);
-    let mut place = start_of(text);
+    let mut place = start_of(encoding, text);
     for put in puts {
-        let (next, at) = place_of(text, place, put.at);
+        let (next, at) = place_of(encoding, text, place, put.at);
         push_within(alloc, &mut hints, range, at, put.words.as_slice())?;
         place = next;
     }

@@ -322,9 +322,15 @@ fn put_asked(
     ensures { OnOk result (slots.new.items
         ≡ slots.old.items
         ++ spec.asked_wants solved.now.program.now solved.now.sig.now tables.now
-        (is_asked_row solved.now.files.now asked.now.name.now asked.now.range) row) }
+        (is_asked_row solved.now.encoding solved.now.files.now asked.now.name.now asked.now.range) row) }
 {
-    if is_asked(solved.files, asked.name, asked.range, row.span) {
+    if is_asked(
+        solved.encoding,
+        solved.files,
+        asked.name,
+        asked.range,
+        row.span,
+    ) {
         put_row(slots, solved.program, solved.sig, tables, overriders, row)
     } else {
         Ok(())
@@ -348,7 +354,7 @@ pub fn wanted_of(
     requires overriders { AreOverriders solved.now.program.now overriders.now }
     ensures { IfOk result (λ slots. slots.items
         ≡ spec.rows_want solved.now.program.now solved.now.sig.now tables.now
-        (is_asked_row solved.now.files.now asked.now.name.now asked.now.range) rows.now) }
+        (is_asked_row solved.now.encoding solved.now.files.now asked.now.name.now asked.now.range) rows.now) }
 {
     let mut slots = Vec::new(alloc);
     for row in rows {

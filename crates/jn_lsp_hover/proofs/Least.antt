@@ -9,6 +9,7 @@ use Rattle.jn_front.specs.declared.source.SourceFile.{SourceFile}
 use Rattle.jn_front.specs.Phases.{AreParsed}
 use Rattle.jn_heads.specs.Extract.{heads}
 use Rattle.jn_inference_law.specs.Solution.{IsLeastSignature}
+use Rattle.jn_lsp_text.specs.declared.encoding.Encoding.{Encoding}
 use Rattle.jn_lsp_text.specs.declared.position.Position.{Position}
 use Rattle.jn_lsp_text.specs.declared.reply.Hover.{Hover}
 use Rattle.jn_notes.specs.Noted.{AreLeastTables}
@@ -31,15 +32,15 @@ one_list P s one ts us h i =
     let low : b < length P.bodies = omega (arith, lt, l) in
     one b (slice_index_or ts b []) (slice_index_or us b []) (h.least b low) (i.least b low))
 
-module _ (infer : Infer) (files : List SourceFile) (name : List ℕ) (position : Position)
+module _ (infer : Infer) (encoding : Encoding) (files : List SourceFile) (name : List ℕ) (position : Position)
     (one_front : (names others : List (List ℕ)) (tokens us : List (List Token)) (trees vs : List PlacedFile) → AreParsed files names tokens trees → AreParsed files others us vs → (names ≡ others) × (tokens ≡ us) × (trees ≡ vs))
     (one_program : (names others : List (List ℕ)) (P Q : Program) → ProgramOf infer files names P → ProgramOf infer files others Q → (names ≡ others) × (P ≡ Q))
     (apart : (names : List (List ℕ)) (P : Program) (rows : List Row) → TypedProgramOf infer files names P → IsPhase infer files rows → ⊥)
     (one_signature : (P : Program) (s t : List Qualifier) → IsLeastSignature P s → IsLeastSignature P t → s ≡ t)
     (one_table : (P : Program) (s : List Qualifier) (b : ℕ) (t u : Table) → IsLeastTable P s b t → IsLeastTable P s b u → t ≡ u) where
   of_solved : (names : List (List ℕ)) (P : Program) (s : List Qualifier) (tables : List Table) (hover : Option Hover) → (typed : TypedProgramOf infer files names P)
-      → IsLeastSignature P s → AreLeastTables P s tables → IsSolved infer files name position hover
-      → IsAtPlace files names P s tables (heads typed.of_files.trees) position (place_of name files) hover
+      → IsLeastSignature P s → AreLeastTables P s tables → IsSolved infer encoding files name position hover
+      → IsAtPlace encoding files names P s tables (heads typed.of_files.trees) position (place_of name files) hover
   of_solved names P s tables hover typed least solved h =
       let there = h.of_files.of_files in
       let here = typed.of_files in
@@ -50,18 +51,18 @@ module _ (infer : Infer) (files : List SourceFile) (name : List ℕ) (position :
       let by_program : AreLeastTables P h.signature h.tables = subst (λ (Q : Program). AreLeastTables Q h.signature h.tables) programs.1 h.solved in
       let by_signature : AreLeastTables P s h.tables = subst (λ (t : List Qualifier). AreLeastTables P t h.tables) signatures by_program in
       let all : h.tables ≡ tables = one_list P s (one_table P s) h.tables tables by_signature solved in
-      subst (λ (trees : List PlacedFile). IsAtPlace files names P s tables (heads trees) position (place_of name files) hover) fronts.2
-      (subst (λ (ts : List Table). IsAtPlace files names P s ts (heads there.trees) position (place_of name files) hover) all
-      (subst (λ (t : List Qualifier). IsAtPlace files names P t h.tables (heads there.trees) position (place_of name files) hover) signatures
-      (subst (λ (Q : Program). IsAtPlace files names Q h.signature h.tables (heads there.trees) position (place_of name files) hover) programs.1
-      (subst (λ (ns : List (List ℕ)). IsAtPlace files ns h.P h.signature h.tables (heads there.trees) position (place_of name files) hover) programs.0 h.is))))
+      subst (λ (trees : List PlacedFile). IsAtPlace encoding files names P s tables (heads trees) position (place_of name files) hover) fronts.2
+      (subst (λ (ts : List Table). IsAtPlace encoding files names P s ts (heads there.trees) position (place_of name files) hover) all
+      (subst (λ (t : List Qualifier). IsAtPlace encoding files names P t h.tables (heads there.trees) position (place_of name files) hover) signatures
+      (subst (λ (Q : Program). IsAtPlace encoding files names Q h.signature h.tables (heads there.trees) position (place_of name files) hover) programs.1
+      (subst (λ (ns : List (List ℕ)). IsAtPlace encoding files ns h.P h.signature h.tables (heads there.trees) position (place_of name files) hover) programs.0 h.is))))
 
   pub by_the_least : (names : List (List ℕ)) (P : Program) (s : List Qualifier) (tables : List Table) (hover : Option Hover) → (typed : TypedProgramOf infer files names P)
-      → IsLeastSignature P s → AreLeastTables P s tables → IsHover infer files name position hover
-      → IsAtPlace files names P s tables (heads typed.of_files.trees) position (place_of name files) hover
+      → IsLeastSignature P s → AreLeastTables P s tables → IsHover infer encoding files name position hover
+      → IsAtPlace encoding files names P s tables (heads typed.of_files.trees) position (place_of name files) hover
   by_the_least names P s tables hover typed least solved (inl (rows, phase, none)) = absurd (apart names P rows typed phase)
   by_the_least names P s tables hover typed least solved (inr h) = of_solved names P s tables hover typed least solved h
 
-  pub none_of_refused : (rows : List Row) (hover : Option Hover) → IsPhase infer files rows → IsHover infer files name position hover → hover ≡ None
+  pub none_of_refused : (rows : List Row) (hover : Option Hover) → IsPhase infer files rows → IsHover infer encoding files name position hover → hover ≡ None
   none_of_refused rows hover phase (inl (others, is, none)) = none
   none_of_refused rows hover phase (inr h) = absurd (apart h.names h.P rows h.of_files phase)

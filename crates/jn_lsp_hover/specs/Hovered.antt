@@ -12,6 +12,7 @@ use Rattle.jn_heads.specs.Extract.{heads}
 use Rattle.jn_inference_law.specs.Solution.{IsLeastSignature}
 use Rattle.jn_lsp_text.specs.Positions.{IsOffsetOf}
 use Rattle.jn_lsp_text.specs.Ranges.{range_at}
+use Rattle.jn_lsp_text.specs.declared.encoding.Encoding.{Encoding}
 use Rattle.jn_lsp_text.specs.declared.position.Position.{Position}
 use Rattle.jn_lsp_text.specs.declared.reply.Hover.{Hover}
 use Rattle.jn_note_words.specs.declared.note.Note.{Note}
@@ -36,8 +37,8 @@ use Rattle.jn_lsp_hover.specs.Values.{qual_of}
 use Rattle.jn_lsp_hover.specs.Worded.{qual_words, slot_words}
 
 -- what is shown of a value whose text stands at the span
-abbrev pub value_hover : List ℕ → Span → Qualifier → Hover
-value_hover text span q = record { range = range_at text span.from span.to; words = qual_words q; related = [] }
+abbrev pub value_hover : Encoding → List ℕ → Span → Qualifier → Hover
+value_hover encoding text span q = record { range = range_at encoding text span.from span.to; words = qual_words q; related = [] }
 
 -- the item of a slot's bit, where it has that
 abbrev pub bit_item : ℕ → Qualifier → Bit → Option Item
@@ -52,14 +53,15 @@ module _ (files : List SourceFile) (names : List (List ℕ)) (P : Program) (s : 
     pub of_free : AreFrom P names s tables (bit_item k (slice_index_or s k no_qual) Free) free
     pub are : notes ≡ null.shown ++ free.shown
 
+module _ (encoding : Encoding) (files : List SourceFile) (names : List (List ℕ)) (P : Program) (s : List Qualifier) (tables : List Table) where
   -- what is shown of a slot, whose name stands at the span
   abbrev pub slot_hover : List ℕ → Span → ℕ → List Note → Hover
-  slot_hover text span k notes = record { range = range_at text span.from span.to; words = slot_words P names k (slice_index_or s k no_qual); related = map (related_of files) notes }
+  slot_hover text span k notes = record { range = range_at encoding text span.from span.to; words = slot_words P names k (slice_index_or s k no_qual); related = map (related_of encoding files) notes }
 
   -- of a declared name with this slot: what the slot has; nothing where it has none
   abbrev pub IsOfSlot : List ℕ → Span → Option SlotNo → Option Hover → Type 0
   IsOfSlot text span None hover = hover ≡ None
-  IsOfSlot text span (Some k) hover = (notes : List Note) × AreReasons k.0 notes × (hover ≡ Some (slot_hover text span k.0 notes))
+  IsOfSlot text span (Some k) hover = (notes : List Note) × AreReasons files names P s tables k.0 notes × (hover ≡ Some (slot_hover text span k.0 notes))
 
   -- the same where no name may stand
   abbrev pub IsOfDeclared : List ℕ → Option Declared → Option Hover → Type 0
@@ -69,7 +71,7 @@ module _ (files : List SourceFile) (names : List (List ℕ)) (P : Program) (s : 
   -- of the narrowest value, where there is one
   abbrev pub IsOfSpot : List ℕ → Option Declared → Option Spot → Option Hover → Type 0
   IsOfSpot text declared None hover = IsOfDeclared text declared hover
-  IsOfSpot text declared (Some spot) hover = hover ≡ option_map (value_hover text spot.span) (qual_of P s tables spot)
+  IsOfSpot text declared (Some spot) hover = hover ≡ option_map (value_hover encoding text spot.span) (qual_of P s tables spot)
 
   -- at a byte of the file of a number
   pub record IsAtByte (heads : List ClassHead) (file : ℕ) (text : List ℕ) (offset : ℕ) (hover : Option Hover) : Type 0 where
@@ -82,9 +84,9 @@ module _ (files : List SourceFile) (names : List (List ℕ)) (P : Program) (s : 
   IsAtPlace heads position None hover = hover ≡ None
   IsAtPlace heads position (Some file) hover =
       let text : List ℕ = (slice_index_or files file no_file).bytes in
-      (offset : ℕ) × IsOffsetOf text position offset × IsAtByte heads file text offset hover
+      (offset : ℕ) × IsOffsetOf encoding text position offset × IsAtByte heads file text offset hover
 
-module _ (infer : Infer) (files : List SourceFile) (name : List ℕ) (position : Position) where
+module _ (infer : Infer) (encoding : Encoding) (files : List SourceFile) (name : List ℕ) (position : Position) where
   -- that of files that no phase refuses, under the least signature of their program and the least tables of its bodies
   pub record IsSolved (hover : Option Hover) : Type 0 where
     pub names : List (List ℕ)
@@ -94,7 +96,7 @@ module _ (infer : Infer) (files : List SourceFile) (name : List ℕ) (position :
     pub least : IsLeastSignature P signature
     pub tables : List Table
     pub solved : AreLeastTables P signature tables
-    pub is : IsAtPlace files names P signature tables (heads of_files.of_files.trees) position (place_of name files) hover
+    pub is : IsAtPlace encoding files names P signature tables (heads of_files.of_files.trees) position (place_of name files) hover
 
   -- refused files get none
   abbrev pub IsHover : Option Hover → Type 0

@@ -4,6 +4,7 @@ use Rattle.std.specs.List.{ends_with}
 use Rattle.std.specs.Str.Lossy.{utf8_lossy}
 use Rattle.jn_base.specs.declared.place.Span.{Span}
 use Rattle.jn_front.specs.declared.source.SourceFile.{SourceFile}
+use Rattle.jn_lsp_text.specs.declared.encoding.Encoding.{Encoding}
 use Rattle.jn_lsp_text.specs.declared.range.Range.{Range}
 use Rattle.jn_lsp_text.specs.Ranges.{range_at}
 use Rattle.jn_lsp_text.specs.declared.reply.Related.{Related}
@@ -22,8 +23,8 @@ abbrev pub home_of : List SourceFile → Span → SourceFile
 home_of files span = slice_index_or files (home files span) no_file
 
 -- the range of a span in the file where it stands
-abbrev pub range_in : List SourceFile → Span → Range
-range_in files span = range_at (home_of files span).bytes span.from span.to
+abbrev pub range_in : Encoding → List SourceFile → Span → Range
+range_in encoding files span = range_at encoding (home_of files span).bytes span.from span.to
 
 -- a text without this ending, where it has it
 abbrev pub without_ending : List ℕ → List ℕ → List ℕ
@@ -34,5 +35,5 @@ abbrev pub without_lead : List ℕ → List ℕ
 without_lead words = without_ending (codes ":") (without_ending (codes " at") words)
 
 -- a note at its file and its range; what is no UTF-8 in its words is replaced
-abbrev pub related_of : List SourceFile → Note → Related
-related_of files note = record { name = (home_of files note.span).name; range = range_in files note.span; words = utf8_lossy (without_lead note.words) }
+abbrev pub related_of : Encoding → List SourceFile → Note → Related
+related_of encoding files note = record { name = (home_of files note.span).name; range = range_in encoding files note.span; words = utf8_lossy (without_lead note.words) }

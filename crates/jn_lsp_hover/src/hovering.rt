@@ -25,7 +25,7 @@ use jn_heads::ClassHead;
 use jn_heads::extract::heads;
 use jn_index::BaseTyped;
 use jn_index::indexed::IndexedProgram;
-use jn_lsp_text::{Hover, Position, offset_of, range_of};
+use jn_lsp_text::{Encoding, Hover, Position, offset_of, range_of};
 use jn_note_words::owners::find_owners;
 use jn_notes::tables::least_tables;
 use jn_origins::LeastOrigins;
@@ -49,18 +49,26 @@ const MOST_FILES: usize = 64;
 struct Asked<'a> {
     /// The members that are inferred.
     infer: Infer,
+    /// The unit of positions.
+    encoding: Encoding,
     name: &'a str,
     position: Position,
 }
 
 // ---- what stands at a byte
 
-fn value_hover(alloc: Global, text: &[u8], span: Span, qual: Qual) -> Result<Hover, OutOfMemory>
+fn value_hover(
+    alloc: Global,
+    encoding: Encoding,
+    text: &[u8],
+    span: Span,
+    qual: Qual,
+) -> Result<Hover, OutOfMemory>
     requires small { length text.now < 2 ^ 30 }
-    ensures { IfOk result (λ hover. hover ≡ spec.value_hover text.now span qual) }
+    ensures { IfOk result (λ hover. hover ≡ spec.value_hover encoding text.now span qual) }
 {
     Ok(Hover {
-        range: range_of(text, span.from, span.to),
+        range: range_of(encoding, text, span.from, span.to),
         words: qual_words(alloc, qual)?,
         related: Seq::new(alloc),
     })
@@ -76,13 +84,13 @@ fn of_spot(
     requires inferable { IsInferable solved.now.program.now }
     requires solved { AreLeastTables solved.now.program.now solved.now.sig.now solved.now.tables.now }
     ensures { IfOk result (λ hover. hover
-        ≡ option_map (spec.value_hover text.now spot.span)
+        ≡ option_map (spec.value_hover solved.now.encoding text.now spot.span)
         (qual_there solved.now.program.now solved.now.sig.now solved.now.tables.now spot)) }
 {
     least_tables_are_sized();
     match qual_of(alloc, solved.program, solved.sig, solved.tables, spot)? {
         None => Ok(None),
-        Some(qual) => Ok(Some(value_hover(alloc, text, spot.span, qual)?)),
+        Some(qual) => Ok(Some(value_hover(alloc, solved.encoding, text, spot.span, qual)?)),
     }
 }
 
@@ -101,7 +109,7 @@ fn of_slot(
     requires solved { AreLeastTables solved.now.program.now solved.now.sig.now solved.now.tables.now }
     requires indexed { indexed.now ≡ solved.now.program.now }
     ensures { IfOk result (λ hover.
-        spec.IsOfSlot solved.now.files.now solved.now.names.now solved.now.program.now
+        spec.IsOfSlot solved.now.encoding solved.now.files.now solved.now.names.now solved.now.program.now
         solved.now.sig.now solved.now.tables.now text.now span (Some slot) hover) }
 {
     least_tables_are_sized();
@@ -109,7 +117,7 @@ fn of_slot(
     let origins = LeastOrigins::new(alloc, indexed, solved.sig, solved.tables)?;
     let notes = reasons_of(alloc, solved, &origins, &owners, slot.0)?;
     Ok(Some(Hover {
-        range: range_of(text, span.from, span.to),
+        range: range_of(solved.encoding, text, span.from, span.to),
         words: slot_words(
             alloc,
             solved.program,
@@ -118,7 +126,7 @@ fn of_slot(
             slot.0,
             solved.sig.get(slot),
         )?,
-        related: all_related(alloc, solved.files, &notes)?,
+        related: all_related(alloc, solved.encoding, solved.files, &notes)?,
     }))
 }
 
@@ -136,7 +144,7 @@ fn of_declared(
     requires solved { AreLeastTables solved.now.program.now solved.now.sig.now solved.now.tables.now }
     requires indexed { indexed.now ≡ solved.now.program.now }
     ensures { IfOk result (λ hover.
-        spec.IsOfDeclared solved.now.files.now solved.now.names.now solved.now.program.now
+        spec.IsOfDeclared solved.now.encoding solved.now.files.now solved.now.names.now solved.now.program.now
         solved.now.sig.now solved.now.tables.now text.now declared hover) }
 {
     match declared {
@@ -164,7 +172,7 @@ fn at_byte(
     requires solved { AreLeastTables solved.now.program.now solved.now.sig.now solved.now.tables.now }
     requires indexed { indexed.now ≡ solved.now.program.now }
     ensures { IfOk result (λ hover.
-        spec.IsAtByte solved.now.files.now solved.now.names.now solved.now.program.now
+        spec.IsAtByte solved.now.encoding solved.now.files.now solved.now.names.now solved.now.program.now
         solved.now.sig.now solved.now.tables.now heads.now file text.now offset hover) }
 {
     let sought = Sought {
@@ -229,14 +237,14 @@ fn at_place(
     requires solved { AreLeastTables solved.now.program.now solved.now.sig.now solved.now.tables.now }
     requires indexed { indexed.now ≡ solved.now.program.now }
     ensures { IfOk result (λ hover.
-        spec.IsAtPlace solved.now.files.now solved.now.names.now solved.now.program.now
+        spec.IsAtPlace solved.now.encoding solved.now.files.now solved.now.names.now solved.now.program.now
         solved.now.sig.now solved.now.tables.now heads.now position place hover) }
 {
     match place {
         None => Ok(None),
         Some(file) => {
             let text = text_of(solved.files, file);
-            let offset = offset_of(text, position);
+            let offset = offset_of(solved.encoding, text, position);
             at_byte(alloc, solved, indexed, heads, file, text, offset)
         }
     }
@@ -260,12 +268,13 @@ fn of_solved(
     requires inferable { IsInferable base.now }
     requires least { IsLeastSignature base.now sig.now }
     ensures { IfOk result (λ hover.
-        spec.IsHover asked.now.infer files.now asked.now.name.now asked.now.position hover) }
+        spec.IsHover asked.now.infer asked.now.encoding files.now asked.now.name.now asked.now.position hover) }
 {
     let program = base.program();
     let tables = least_tables(alloc, program, sig)?;
     let heads = heads(alloc, trees)?;
     let solved = Solved {
+        encoding: asked.encoding,
         files,
         names,
         program,
@@ -301,7 +310,7 @@ fn of_program<R: Threads + Sync, G: Gate + Sync>(
     requires program { (typed : TypedProgramOf asked.now.infer files.now names.now base.now)
         × (typed.of_files.trees ≡ map placed_file trees.now) }
     ensures { IfOk result (λ hover.
-        spec.IsHover asked.now.infer files.now asked.now.name.now asked.now.position hover) }
+        spec.IsHover asked.now.infer asked.now.encoding files.now asked.now.name.now asked.now.position hover) }
 {
     regular_programs_can_be_inferred();
     let sig = solve_sig(rt, alloc, base.indexed(), workers, gate)?;
@@ -324,7 +333,7 @@ fn finish<R: Threads + Sync, G: Gate + Sync>(
     requires typed { IsTypedOr asked.now.infer files.now found.now.names
         (map placed_file found.now.trees.items) found.now.rows found.now.base }
     ensures { IfOk result (λ hover.
-        spec.IsHover asked.now.infer files.now asked.now.name.now asked.now.position hover) }
+        spec.IsHover asked.now.infer asked.now.encoding files.now asked.now.name.now asked.now.position hover) }
 {
     match &found.base {
         None => Ok(None),
@@ -343,7 +352,7 @@ fn finish<R: Threads + Sync, G: Gate + Sync>(
 }
 
 /// What is shown at a position of the file of a name, among files whose program is inferred anew by so many workers, where these members are
-/// inferred. A worker enters the gate when it takes a file, or infers.
+/// inferred, and positions count in this unit. A worker enters the gate when it takes a file, or infers.
 ///
 /// Of all texts that a point reads or makes, the narrowest one at the position counts, the first of these by body and point: it is told whether the
 /// value may be null there, and whether it may be under construction. Where there is no such text, but the name of a field, a method or a parameter
@@ -361,13 +370,14 @@ pub fn hover_for<R: Threads + Sync, G: Gate + Sync>(
     alloc: Global,
     workers: u32,
     infer: Infer,
+    encoding: Encoding,
     files: &[SourceFile],
     name: &str,
     position: Position,
 ) -> Result<Option<Hover>, OutOfMemory>
     requires workers { (1 ≤ workers) × (workers ≤ 16) }
     requires fit { AllFit files.now }
-    ensures { IfOk result (λ hover. spec.IsHover infer files.now name.now position hover) }
+    ensures { IfOk result (λ hover. spec.IsHover infer encoding files.now name.now position hover) }
 {
     if files.len() > MOST_FILES {
         too_many_files(alloc)?;
@@ -384,6 +394,7 @@ pub fn hover_for<R: Threads + Sync, G: Gate + Sync>(
         &found,
         &Asked {
             infer,
+            encoding,
             name,
             position,
         },

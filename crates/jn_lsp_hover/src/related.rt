@@ -5,7 +5,7 @@ ghost use Rattle.jn_recheck.specs.Files.{AllFit};
 
 use jn_base::{Seq, Span, Text};
 use jn_front::SourceFile;
-use jn_lsp_text::{Range, Related, range_of};
+use jn_lsp_text::{Encoding, Range, Related, range_of};
 use jn_note_words::Note;
 use std::alloc::{AllocError, Global};
 
@@ -28,13 +28,13 @@ pub fn name_of<'a>(files: &'a [SourceFile], span: &Span) -> &'a str
 }
 
 /// The range of a span in the file where it stands.
-pub fn range_in(files: &[SourceFile], span: &Span) -> Range
+pub fn range_in(encoding: Encoding, files: &[SourceFile], span: &Span) -> Range
     requires fit { AllFit files.now }
-    ensures { result ≡ spec.range_in files.now span.now }
+    ensures { result ≡ spec.range_in encoding files.now span.now }
 {
     match files.get(home(files, span)) {
-        None => range_of(&[], span.from, span.to),
-        Some(file) => range_of(file.bytes.as_slice(), span.from, span.to),
+        None => range_of(encoding, &[], span.from, span.to),
+        Some(file) => range_of(encoding, file.bytes.as_slice(), span.from, span.to),
     }
 }
 
@@ -56,13 +56,18 @@ fn without_lead(words: &[u8]) -> &[u8]
     without_ending(without_ending(words, b" at"), b":")
 }
 
-fn related_of(alloc: Global, files: &[SourceFile], note: &Note) -> Result<Related, AllocError>
+fn related_of(
+    alloc: Global,
+    encoding: Encoding,
+    files: &[SourceFile],
+    note: &Note,
+) -> Result<Related, AllocError>
     requires fit { AllFit files.now }
-    ensures { IfOk result (λ related. related ≡ spec.related_of files.now note.now) }
+    ensures { IfOk result (λ related. related ≡ spec.related_of encoding files.now note.now) }
 {
     Ok(Related {
         name: Text::of_str(alloc, name_of(files, &note.span))?,
-        range: range_in(files, &note.span),
+        range: range_in(encoding, files, &note.span),
         words: Text::of_string(String::from_utf8_lossy(
             alloc,
             without_lead(note.words.as_slice()),
@@ -76,15 +81,16 @@ fn related_of(alloc: Global, files: &[SourceFile], note: &Note) -> Result<Relate
 /// No memory was found.
 pub fn all_related(
     alloc: Global,
+    encoding: Encoding,
     files: &[SourceFile],
     notes: &[Note],
 ) -> Result<Seq<Related>, AllocError>
     requires fit { AllFit files.now }
-    ensures { IfOk result (λ related. related ≡ map (spec.related_of files.now) notes.now) }
+    ensures { IfOk result (λ related. related ≡ map (spec.related_of encoding files.now) notes.now) }
 {
     let mut related = Seq::new(alloc);
     for note in notes {
-        related.push(related_of(alloc, files, note)?)?;
+        related.push(related_of(alloc, encoding, files, note)?)?;
     }
     Ok(related)
 }

@@ -9,6 +9,8 @@ use Rattle.serde_json.specs.Read.{max_depth, read}
 use Rattle.serde_json.specs.Written.{compact_text, has_float, items_have_float, members_have_float}
 use Rattle.jn_base.specs.Codes.{code_name}
 use Rattle.jn_base.specs.declared.code.Code.{Code}
+use Rattle.jn_lsp_text.specs.declared.encoding.Encoding.{Encoding}
+use Rattle.jn_lsp_text.specs.declared.encoding.Encoding.TheVariants.{Utf16, Utf8}
 use Rattle.jn_lsp_text.specs.declared.markup.Markup.{Markup}
 use Rattle.jn_lsp_text.specs.declared.position.Position.{Position}
 use Rattle.jn_lsp_text.specs.declared.range.Range.{Range}
@@ -206,9 +208,13 @@ watch_is = record { shallow = closed; whole = refl }
     closed : 7 ≤ 9
     closed = omega arith
 
-initialize_is : Is 8 initialize_data
+initialize_is : (encoding : Encoding) → Is 8 (initialize_data encoding)
 unfolding initialize_data capabilities_data kinds_data sync_data workspace_data server_data
-initialize_is = record { shallow = closed; whole = refl }
+initialize_is Utf16 = record { shallow = closed; whole = refl }
+  where
+    closed : 4 ≤ 8
+    closed = omega arith
+initialize_is Utf8 = record { shallow = closed; whole = refl }
   where
     closed : 4 ≤ 8
     closed = omega arith
@@ -234,7 +240,7 @@ unfolding refusal_data
 refusal_is i f = holding 8 9 _ refl (next 8 _ _ _ (error_is f) (next 8 _ _ _ (id_or_null_is 8 i) (last 8 _ _ (text 8 (codes "2.0")))))
 
 reply_is : (address : Option (List ℕ)) (r : Reply) → Is 9 (data_of address r)
-reply_is address (reply.Capabilities i) = answer_is i initialize_data initialize_is
+reply_is address (reply.Capabilities i encoding) = answer_is i (initialize_data encoding) (initialize_is encoding)
 reply_is address (reply.Done i) = answer_is i null (nothing 8)
 reply_is address (reply.Refusal i f) = refusal_is i f
 reply_is address (reply.Publish name version ds) = notice_is _ _ (published_is address name version ds)

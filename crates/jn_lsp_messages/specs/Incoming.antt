@@ -6,6 +6,8 @@ use Rattle.serde_json.specs.Read.{read}
 use Rattle.jn_lsp_text.specs.Choices.{choice_named}
 use Rattle.jn_lsp_text.specs.declared.choice.Choice.{Choice}
 use Rattle.jn_lsp_text.specs.declared.choice.Choice.TheVariants.{Unsaid, Wrong}
+use Rattle.jn_lsp_text.specs.declared.encoding.Encoding.{Encoding}
+use Rattle.jn_lsp_text.specs.declared.encoding.Encoding.TheVariants.{Utf16, Utf8}
 use Rattle.jn_lsp_text.specs.declared.folders.Folders.{Folders}
 use Rattle.jn_lsp_text.specs.declared.markup.Markup.{Markup}
 use Rattle.jn_lsp_text.specs.declared.markup.Markup.TheVariants.{Plain, Markdown}
@@ -159,21 +161,30 @@ usual_exclude = codes "target" ∷ codes "build" ∷ codes "node_modules" ∷ co
 unfoldable pub exclude_in : Data → Option (List (List ℕ))
 exclude_in d = values_or as_str usual_exclude (pointer (codes "/params/initializationOptions/exclude") d)
 
+-- a word is among the texts of an array
+abbrev pub is_word : List ℕ → Option (List ℕ) → Bool
+is_word word None = false
+is_word word (Some text) = bytes_eq text word
+
+abbrev pub has_word : List ℕ → Items → Bool
+has_word word no_items = false
+has_word word (item d ds) = is_word word (as_str d) || has_word word ds
+
 -- how the client shows what stands at a position: in Markdown, where that is among the forms that it names
-abbrev pub is_markdown : Option (List ℕ) → Bool
-is_markdown None = false
-is_markdown (Some form) = bytes_eq form (codes "markdown")
-
-abbrev pub has_markdown : Items → Bool
-has_markdown no_items = false
-has_markdown (item d ds) = is_markdown (as_str d) || has_markdown ds
-
 abbrev pub markup_by : Option Items → Markup
 markup_by None = Plain
-markup_by (Some forms) = if has_markdown forms then Markdown else Plain
+markup_by (Some forms) = if has_word (codes "markdown") forms then Markdown else Plain
 
 unfoldable pub markup_in : Data → Markup
 markup_in d = markup_by (option_and_then as_array (pointer (codes "/params/capabilities/textDocument/hover/contentFormat") d))
+
+-- the unit of positions: UTF-8, where that is among those which the client offers; else UTF-16, which every client takes
+abbrev pub encoding_by : Option Items → Encoding
+encoding_by None = Utf16
+encoding_by (Some offered) = if has_word (codes "utf-8") offered then Utf8 else Utf16
+
+unfoldable pub encoding_in : Data → Encoding
+encoding_in d = encoding_by (option_and_then as_array (pointer (codes "/params/capabilities/general/positionEncodings") d))
 
 -- ---- messages
 
@@ -199,7 +210,7 @@ changed d = about (λ name. option_map (message.DidChange name (document_version
 
 abbrev pub asked_start : Id → Data → Option Message
 asked_start id d =
-    option_and_then (λ folders. option_and_then (λ files. option_map (λ exclude. message.Initialize id folders (infer_in d) files exclude (markup_in d))
+    option_and_then (λ folders. option_and_then (λ files. option_map (λ exclude. message.Initialize id folders (infer_in d) files exclude (markup_in d) (encoding_in d))
     (exclude_in d)) (files_in d)) (folders_in d)
 
 abbrev pub asked_actions : Id → Data → Option Message

@@ -6,6 +6,8 @@ use Rattle.serde_json.specs.View.{items_of}
 use Rattle.jn_base.specs.Codes.{code_name}
 use Rattle.jn_base.specs.Messages.{code_cure, code_message}
 use Rattle.jn_base.specs.declared.code.Code.{Code}
+use Rattle.jn_lsp_text.specs.declared.encoding.Encoding.{Encoding}
+use Rattle.jn_lsp_text.specs.declared.encoding.Encoding.TheVariants.{Utf16, Utf8}
 use Rattle.jn_lsp_text.specs.declared.markup.Markup.{Markup}
 use Rattle.jn_lsp_text.specs.declared.markup.Markup.TheVariants.{Plain, Markdown}
 use Rattle.jn_lsp_text.specs.declared.position.Position.{Position}
@@ -180,12 +182,17 @@ kinds_data = object (one (codes "codeActionKinds") (array (item (string (codes "
 unfoldable pub workspace_data : Data
 workspace_data = object (one (codes "workspaceFolders") (object (one (codes "supported") (boolean true))))
 
-unfoldable pub capabilities_data : Data
-capabilities_data =
+-- PositionEncodingKind
+abbrev pub encoding_name : Encoding → List ℕ
+encoding_name Utf16 = codes "utf-16"
+encoding_name Utf8 = codes "utf-8"
+
+unfoldable pub capabilities_data : Encoding → Data
+capabilities_data encoding =
     object (member (codes "codeActionProvider") kinds_data
     (member (codes "hoverProvider") (boolean true)
     (member (codes "inlayHintProvider") (boolean true)
-    (member (codes "positionEncoding") (string (codes "utf-16"))
+    (member (codes "positionEncoding") (string (encoding_name encoding))
     (member (codes "textDocumentSync") sync_data
     (one (codes "workspace") workspace_data))))))
 
@@ -195,8 +202,8 @@ version = codes "0.1.0"
 unfoldable pub server_data : Data
 server_data = object (member (codes "name") (string (codes "nullcheck_lsp")) (one (codes "version") (string version)))
 
-unfoldable pub initialize_data : Data
-initialize_data = object (member (codes "capabilities") capabilities_data (one (codes "serverInfo") server_data))
+unfoldable pub initialize_data : Encoding → Data
+initialize_data encoding = object (member (codes "capabilities") (capabilities_data encoding) (one (codes "serverInfo") server_data))
 
 -- ---- refusals
 
@@ -260,7 +267,7 @@ shown_data words = object (member (codes "message") (string words) (one (codes "
 
 -- what a reply is as JSON, with links to the codes' texts where the address of their document is given
 abbrev pub data_of : Option (List ℕ) → Reply → Data
-data_of address (reply.Capabilities i) = answer_data i initialize_data
+data_of address (reply.Capabilities i encoding) = answer_data i (initialize_data encoding)
 data_of address (reply.Done i) = answer_data i null
 data_of address (reply.Refusal i f) = refusal_data i f
 data_of address (reply.Publish name version diagnostics) = notice_data (codes "textDocument/publishDiagnostics") (published_data address name version diagnostics)

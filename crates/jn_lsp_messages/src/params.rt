@@ -6,7 +6,7 @@ ghost use Rattle.jn_lsp_messages.specs.Incoming as spec;
 
 use crate::uri::name_of;
 use jn_base::{OutOfMemory, Seq, Text};
-use jn_lsp_text::{Change, Choice, Markup, Position, Range, choice_named};
+use jn_lsp_text::{Change, Choice, Encoding, Markup, Position, Range, choice_named};
 use serde_json::Value;
 use std::alloc::{AllocError, Global};
 
@@ -229,21 +229,22 @@ pub(crate) fn exclude_in(alloc: Global, body: &Value) -> Result<Option<Seq<Text>
     }
 }
 
-fn is_markdown(form: &Value) -> bool
-    ensures { result ≡ spec.is_markdown (as_str (view form.now)) }
+fn is_word(word: &str, item: &Value) -> bool
+    ensures { result ≡ spec.is_word word.now (as_str (view item.now)) }
 {
-    match form.as_str() {
+    match item.as_str() {
         None => false,
-        Some(form) => form == "markdown",
+        Some(text) => text == word,
     }
 }
 
-fn has_markdown(forms: &[Value]) -> bool
-    ensures { result ≡ spec.has_markdown (items_view forms.now) }
+/// Whether the word is among the texts of an array.
+fn has_word(word: &str, items: &[Value]) -> bool
+    ensures { result ≡ spec.has_word word.now (items_view items.now) }
 {
-    let mut rest = forms;
-    while let [form, more @ ..] = rest {
-        if is_markdown(form) {
+    let mut rest = items;
+    while let [item, more @ ..] = rest {
+        if is_word(word, item) {
             return true;
         }
         rest = more;
@@ -257,7 +258,7 @@ fn markup_of(value: &Value) -> Markup
     match value.as_array() {
         None => Markup::Plain,
         Some(forms) => {
-            if has_markdown(forms) {
+            if has_word("markdown", forms) {
                 Markup::Markdown
             } else {
                 Markup::Plain
@@ -274,6 +275,32 @@ pub(crate) fn markup_in(body: &Value) -> Markup
     match body.pointer("/params/capabilities/textDocument/hover/contentFormat") {
         None => Markup::Plain,
         Some(forms) => markup_of(forms),
+    }
+}
+
+fn encoding_of(value: &Value) -> Encoding
+    ensures { result ≡ spec.encoding_by (as_array (view value.now)) }
+{
+    match value.as_array() {
+        None => Encoding::Utf16,
+        Some(offered) => {
+            if has_word("utf-8", offered) {
+                Encoding::Utf8
+            } else {
+                Encoding::Utf16
+            }
+        }
+    }
+}
+
+/// The unit of positions: UTF-8, where that is among those which the client offers; else UTF-16, which every client takes.
+#[tactic(auto, unfolding(crate::specs::Incoming::encoding_in))]
+pub(crate) fn encoding_in(body: &Value) -> Encoding
+    ensures { result ≡ spec.encoding_in (view body.now) }
+{
+    match body.pointer("/params/capabilities/general/positionEncodings") {
+        None => Encoding::Utf16,
+        Some(offered) => encoding_of(offered),
     }
 }
 

@@ -6,8 +6,8 @@ ghost use Rattle.jn_lsp_messages.specs.Incoming as spec;
 use crate::folders::folders_in;
 use crate::method::{Method, method_of};
 use crate::params::{
-    changes_in, document_name, document_text, document_version, exclude_in, files_in, infer_in,
-    markup_in, named_position, named_range, text_in,
+    changes_in, document_name, document_text, document_version, encoding_in, exclude_in, files_in,
+    infer_in, markup_in, named_position, named_range, text_in,
 };
 use jn_base::{OutOfMemory, Text};
 use jn_lsp_text::{Id, Message};
@@ -208,6 +208,7 @@ fn initialize(alloc: Global, id: Id, body: &Value) -> Result<Message, OutOfMemor
 {
     let infer = infer_in(body);
     let markup = markup_in(body);
+    let encoding = encoding_in(body);
     let Some(folders) = folders_in(alloc, body)? else {
         return Ok(Message::BadParams { id: Some(id) });
     };
@@ -223,6 +224,7 @@ fn initialize(alloc: Global, id: Id, body: &Value) -> Result<Message, OutOfMemor
             files,
             exclude,
             markup,
+            encoding,
         }),
     }
 }

@@ -12,7 +12,7 @@ use crate::hovers::hover_value;
 use crate::uri::uri_of;
 use crate::watching::watch_value;
 use jn_base::{OutOfMemory, Text};
-use jn_lsp_text::{Diagnostic, Failure, Id, Reply};
+use jn_lsp_text::{Diagnostic, Encoding, Failure, Id, Reply};
 use serde_json::{Value, json};
 use std::alloc::{AllocError, Global};
 
@@ -42,7 +42,7 @@ fn reply_value(alloc: Global, address: &Option<Text>, reply: &Reply) -> Result<V
     ensures { IfOk result (λ v. view v ≡ spec.data_of address.now reply.now) }
 {
     match reply {
-        Reply::Capabilities { id } => capabilities(alloc, id),
+        Reply::Capabilities { id, encoding } => capabilities(alloc, id, *encoding),
         Reply::Done { id } => Ok(answer(alloc, id, Value::Null)?),
         Reply::Refusal { id, failure } => Ok(refusal(alloc, id, *failure)?),
         Reply::Publish {
@@ -147,29 +147,38 @@ fn failure_words(failure: Failure) -> &'static str
 }
 
 /// The answer to `initialize`.
-fn capabilities(alloc: Global, id: &Id) -> Result<Value, OutOfMemory>
-    ensures { IfOk result (λ v. view v ≡ spec.answer_data id.now spec.initialize_data) }
+fn capabilities(alloc: Global, id: &Id, encoding: Encoding) -> Result<Value, OutOfMemory>
+    ensures { IfOk result (λ v. view v ≡ spec.answer_data id.now (spec.initialize_data encoding)) }
 {
-    let value = initialize_value(alloc)?;
+    let value = initialize_value(alloc, encoding)?;
     Ok(answer(alloc, id, value)?)
 }
 
 #[tactic(auto, unfolding(crate::specs::Outgoing::initialize_data, crate::specs::Outgoing::server_data))]
-fn initialize_value(alloc: Global) -> Result<Value, AllocError>
-    ensures { IfOk result (λ v. view v ≡ spec.initialize_data) }
+fn initialize_value(alloc: Global, encoding: Encoding) -> Result<Value, AllocError>
+    ensures { IfOk result (λ v. view v ≡ spec.initialize_data encoding) }
 {
-    let capabilities = capabilities_value(alloc)?;
+    let capabilities = capabilities_value(alloc, encoding)?;
     json!(in alloc; {"capabilities": capabilities, "serverInfo": {"name": "nullcheck_lsp", "version": VERSION}})
 }
 
+fn encoding_name(encoding: Encoding) -> &'static str
+    ensures { result.now ≡ spec.encoding_name encoding }
+{
+    match encoding {
+        Encoding::Utf16 => "utf-16",
+        Encoding::Utf8 => "utf-8",
+    }
+}
+
 #[tactic(auto, unfolding(crate::specs::Outgoing::capabilities_data))]
-fn capabilities_value(alloc: Global) -> Result<Value, AllocError>
-    ensures { IfOk result (λ v. view v ≡ spec.capabilities_data) }
+fn capabilities_value(alloc: Global, encoding: Encoding) -> Result<Value, AllocError>
+    ensures { IfOk result (λ v. view v ≡ spec.capabilities_data encoding) }
 {
     let kinds = kinds_value(alloc)?;
     let sync = sync_value(alloc)?;
     let workspace = workspace_value(alloc)?;
-    json!(in alloc; {"codeActionProvider": kinds, "hoverProvider": true, "inlayHintProvider": true, "positionEncoding": "utf-16", "textDocumentSync": sync, "workspace": workspace})
+    json!(in alloc; {"codeActionProvider": kinds, "hoverProvider": true, "inlayHintProvider": true, "positionEncoding": encoding_name(encoding), "textDocumentSync": sync, "workspace": workspace})
 }
 
 #[tactic(auto, unfolding(crate::specs::Outgoing::kinds_data))]

@@ -10,6 +10,8 @@ use Rattle.jn_diag.proofs.Sweeping.{line_anew, line_longer, step_is}
 use Rattle.jn_lsp_text.specs.Positions.{IsUpTo, units, units_begun}
 use Rattle.jn_lsp_text.specs.Counting.{counted, with, is_beyond}
 use Rattle.jn_lsp_text.specs.declared.counting.Counted.{Counted}
+use Rattle.jn_lsp_text.specs.declared.encoding.Encoding.{Encoding}
+use Rattle.jn_lsp_text.specs.declared.encoding.Encoding.TheVariants.{Utf16, Utf8}
 use Rattle.jn_lsp_text.specs.declared.position.Position.{Position}
 
 taken : (text : List ℕ) (at : ℕ) → at < length text → take (at + 1) text ≡ take at text ++ get_or text at 0 ∷ []
@@ -30,15 +32,15 @@ lines_more text at lt = omega (arith, step.line)
     step : IsPosition text (stepped start (byte_before text at) (get_or text at 0))
     step = step_is text start (byte_before text at) (get_or text at 0) start_is lt refl refl
 
-units_more : (text : List ℕ) (at : ℕ) → at < length text → units (last_line (take (at + 1) text)) ≡ cond (is_line_end (get_or text at 0)) 0 (units (last_line (take at text)) + units_begun (get_or text at 0))
-units_more text at lt = ap (λ xs. units (last_line xs)) (taken text at lt) ∙ by_cases (is_line_end byte) refl
+units_more : (encoding : Encoding) (text : List ℕ) (at : ℕ) → at < length text → units encoding (last_line (take (at + 1) text)) ≡ cond (is_line_end (get_or text at 0)) 0 (units encoding (last_line (take at text)) + units_begun encoding (get_or text at 0))
+units_more encoding text at lt = ap (λ xs. units encoding (last_line xs)) (taken text at lt) ∙ by_cases (is_line_end byte) refl
   where
     byte : ℕ
     byte = get_or text at 0
 
-    by_cases : (b : Bool) → is_line_end byte ≡ b → units (last_line (take at text ++ byte ∷ [])) ≡ cond b 0 (units (last_line (take at text)) + units_begun byte)
-    by_cases true e = ap units (line_anew (take at text) byte e)
-    by_cases false e = ap units (line_longer (take at text) byte e) ∙ sum_by_push units_begun (last_line (take at text)) byte
+    by_cases : (b : Bool) → is_line_end byte ≡ b → units encoding (last_line (take at text ++ byte ∷ [])) ≡ cond b 0 (units encoding (last_line (take at text)) + units_begun encoding byte)
+    by_cases true e = ap (units encoding) (line_anew (take at text) byte e)
+    by_cases false e = ap (units encoding) (line_longer (take at text) byte e) ∙ sum_by_push (units_begun encoding) (last_line (take at text)) byte
 
 before_more : (text : List ℕ) (at : ℕ) → byte_before text (at + 1) ≡ get_or text at 0
 before_more text at = ap (byte_before text) (plain_suc at)
@@ -47,20 +49,20 @@ before_more text at = ap (byte_before text) (plain_suc at)
     plain_suc n = omega arith
 
 -- before the first byte nothing is
-pub counted_start : (text : List ℕ) → counted text 0 ≡ record { previous = 0; lines = 0; units = 0 }
-counted_start [] = refl
-counted_start (byte ∷ rest) = refl
+pub counted_start : (encoding : Encoding) (text : List ℕ) → counted encoding text 0 ≡ record { previous = 0; lines = 0; units = 0 }
+counted_start encoding [] = refl
+counted_start encoding (byte ∷ rest) = refl
 
 -- a byte more is counted
-pub counted_more : (text : List ℕ) (at : ℕ) → at < length text → counted text (at + 1) ≡ with (counted text at) (get_or text at 0)
-counted_more text at lt = rw (before_more text at) (rw (lines_more text at lt) (rw (units_more text at lt) refl))
+pub counted_more : (encoding : Encoding) (text : List ℕ) (at : ℕ) → at < length text → counted encoding text (at + 1) ≡ with encoding (counted encoding text at) (get_or text at 0)
+counted_more encoding text at lt = rw (before_more text at) (rw (lines_more text at lt) (rw (units_more encoding text at lt) refl))
 
-pub next_counted : (text : List ℕ) (at : ℕ) (before after : Counted) → at < length text → before ≡ counted text at → after ≡ with before (get_or text at 0) → after ≡ counted text (at + 1)
-next_counted text at before after lt is more = more ∙ ap (λ c. with c (get_or text at 0)) is ∙ sym (counted_more text at lt)
+pub next_counted : (encoding : Encoding) (text : List ℕ) (at : ℕ) (before after : Counted) → at < length text → before ≡ counted encoding text at → after ≡ with encoding before (get_or text at 0) → after ≡ counted encoding text (at + 1)
+next_counted encoding text at before after lt is more = more ∙ ap (λ c. with encoding c (get_or text at 0)) is ∙ sym (counted_more encoding text at lt)
 
 -- no more lines than bytes, and no more than twice as many units
-pub few : (before after : Counted) (byte i : ℕ) → after ≡ with before byte → before.lines ≤ i → before.units ≤ 2 * i → (after.lines ≤ i + 1) × (after.units ≤ 2 * (i + 1))
-few before after byte i is lines units = rw is (few_lines (ends_line before.previous byte), few_units (is_line_end byte))
+pub few : (encoding : Encoding) (before after : Counted) (byte i : ℕ) → after ≡ with encoding before byte → before.lines ≤ i → before.units ≤ 2 * i → (after.lines ≤ i + 1) × (after.units ≤ 2 * (i + 1))
+few encoding before after byte i is lines units = rw is (few_lines (ends_line before.previous byte), few_units (is_line_end byte))
   where
     few_lines : (b : Bool) → before.lines + cond b 1 0 ≤ i + 1
     few_lines true = omega (arith, lines)
@@ -71,9 +73,13 @@ few before after byte i is lines units = rw is (few_lines (ends_line before.prev
     begun false true = omega arith
     begun false false = omega arith
 
-    few_units : (b : Bool) → cond b 0 (before.units + units_begun byte) ≤ 2 * (i + 1)
+    at_most : (e : Encoding) → units_begun e byte ≤ 2
+    at_most Utf16 = begun (is_continuation byte) (nat_le 240 byte)
+    at_most Utf8 = omega arith
+
+    few_units : (b : Bool) → cond b 0 (before.units + units_begun encoding byte) ≤ 2 * (i + 1)
     few_units true = omega arith
-    few_units false = omega (arith, units, begun (is_continuation byte) (nat_le 240 byte))
+    few_units false = omega (arith, units, at_most encoding)
 
 -- the position of what was counted
 abbrev pub counted_position : Counted → Position
@@ -98,14 +104,14 @@ pub up_to_same : (one : Position) → IsUpTo one one
 up_to_same one = record { line = omega arith; character = λ e. omega arith }
 
 -- after a carriage return the line is empty
-pub no_units : (text : List ℕ) (at : ℕ) → at ≤ length text → byte_before text at ≡ 13 → units (last_line (take at text)) ≡ 0
-no_units text zero le is = omega (arith, is)
-no_units text (suc at) le is = ap (λ xs. units (last_line xs)) (take-suc text at 0 (omega (arith, le))) ∙ ap units (line_anew (take at text) (get_or text at 0) (rw is refl))
+pub no_units : (encoding : Encoding) (text : List ℕ) (at : ℕ) → at ≤ length text → byte_before text at ≡ 13 → units encoding (last_line (take at text)) ≡ 0
+no_units encoding text zero le is = omega (arith, is)
+no_units encoding text (suc at) le is = ap (λ xs. units encoding (last_line xs)) (take-suc text at 0 (omega (arith, le))) ∙ ap (units encoding) (line_anew (take at text) (get_or text at 0) (rw is refl))
 
 -- a byte more goes on
-pub forward : (before : Counted) (byte : ℕ) → (before.previous ≡ 13 → before.units ≡ 0) → IsUpTo (counted_position before) (counted_position (with before byte))
-forward before byte anew = record { line = grind arith; character = λ e. grind (arith, e, anew) }
+pub forward : (encoding : Encoding) (before : Counted) (byte : ℕ) → (before.previous ≡ 13 → before.units ≡ 0) → IsUpTo (counted_position before) (counted_position (with encoding before byte))
+forward encoding before byte anew = record { line = grind arith; character = λ e. grind (arith, e, anew) }
 
--- a character's first byte does, but for the LF of CR LF
-pub advances : (before : Counted) (byte : ℕ) → is_continuation byte ≡ false → (before.previous == 13 && byte == 10) ≡ false → IsUpTo (counted_position (with before byte)) (counted_position before) → ⊥
-advances before byte begins whole up = grind (arith, begins, whole, up.line, up.character)
+-- a byte that begins a unit does, but for the LF of CR LF
+pub advances : (encoding : Encoding) (before : Counted) (byte : ℕ) → 1 ≤ units_begun encoding byte → (before.previous == 13 && byte == 10) ≡ false → IsUpTo (counted_position (with encoding before byte)) (counted_position before) → ⊥
+advances encoding before byte begins whole up = grind (arith, begins, whole, up.line, up.character)

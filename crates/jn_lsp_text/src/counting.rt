@@ -2,12 +2,14 @@
 ghost use Rattle.std.specs.Prelude.{◌≡◌, ◌<◌, ◌-◌, ◌+◌, ◌^◌};
 ghost use Rattle.jn_lsp_text.specs.Counting as spec;
 ghost use Rattle.jn_lsp_text.specs.Positions.{units_begun};
+ghost use Rattle.jn_lsp_text.specs.declared.encoding.Encoding.TheVariants.{Utf16};
 
+use crate::encoding::Encoding;
 use crate::position::Position;
 use jn_base::place::{ends_line, is_continuation, is_line_end};
 
 /// What stands before a byte of a text: the byte before it (0 at the text's begin), how many lines end there, and how many
-/// units of UTF-16 the line has up to there.
+/// units of the encoding the line has up to there.
 #[derive(Clone, Copy, Debug, PartialEq, Eq)]
 pub struct Counted {
     pub previous: u8,
@@ -15,9 +17,19 @@ pub struct Counted {
     pub units: u64,
 }
 
-/// How many units of UTF-16 a byte begins: none where it goes on with a character, two where it begins one of four bytes.
-pub fn units_begun(byte: u8) -> u64
-    ensures { result ≡ units_begun byte }
+/// How many units a byte begins: of UTF-16 none where it goes on with a character, two where it begins one of four bytes; of UTF-8 it
+/// is one.
+pub fn units_begun(encoding: Encoding, byte: u8) -> u64
+    ensures { result ≡ units_begun encoding byte }
+{
+    match encoding {
+        Encoding::Utf16 => units_of_utf16(byte),
+        Encoding::Utf8 => 1,
+    }
+}
+
+fn units_of_utf16(byte: u8) -> u64
+    ensures { result ≡ units_begun Utf16 byte }
 {
     if is_continuation(byte) {
         0
@@ -41,10 +53,10 @@ impl Counted {
     }
 
     /// What stands before, and this byte after it.
-    pub fn with(self, byte: u8) -> Counted
+    pub fn with(self, encoding: Encoding, byte: u8) -> Counted
         requires lines { self.lines < 2 ^ 64 - 1 }
         requires units { self.units < 2 ^ 64 - 2 }
-        ensures { result ≡ spec.with self byte }
+        ensures { result ≡ spec.with encoding self byte }
     {
         Counted {
             previous: byte,
@@ -56,7 +68,7 @@ impl Counted {
             units: if is_line_end(byte) {
                 0
             } else {
-                self.units + units_begun(byte)
+                self.units + units_begun(encoding, byte)
             },
         }
     }

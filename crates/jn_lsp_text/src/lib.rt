@@ -1,13 +1,14 @@
 //! Positions and ranges of the Language Server Protocol, and texts with a range replaced.
 //!
 //! [`position_of`] gives the [`Position`] of a byte and [`range_of`] the [`Range`] of a span; [`offset_of`] is the way back. [`replace`]
-//! makes a text with other bytes in place of a range. All take texts of any bytes: where a text is no UTF-8, its bytes count by
-//! the same rule, which [`Position`] tells.
+//! makes a text with other bytes in place of a range. All take an [`Encoding`], in whose units a position counts, and texts of any
+//! bytes: where a text is no UTF-8, its bytes count by the same rule, which [`Position`] tells.
 #![tactic(auto)]
 
 pub mod choice;
 pub mod copies;
 pub mod counting;
+pub mod encoding;
 pub mod folders;
 pub mod id;
 pub mod markup;
@@ -18,6 +19,7 @@ pub mod reply;
 
 pub use choice::{Choice, choice_named, chosen};
 pub use copies::copy_diagnostics;
+pub use encoding::Encoding;
 pub use folders::Folders;
 pub use id::Id;
 pub use markup::Markup;

@@ -1,6 +1,7 @@
 //! What a client sends.
 use crate::Range;
 use crate::choice::Choice;
+use crate::encoding::Encoding;
 use crate::folders::Folders;
 use crate::id::Id;
 use crate::markup::Markup;
@@ -21,8 +22,9 @@ pub enum Change {
 pub enum Message {
     /// `initialize`: the workspace's folders, the members that are inferred by the settings (`initializationOptions.infer`), the names of
     /// files by the settings (`initializationOptions.files`), each whole or relative to the first folder, the names of folders that are left
-    /// out (`initializationOptions.exclude`), and how the client shows what stands at a position
-    /// (`capabilities.textDocument.hover.contentFormat`).
+    /// out (`initializationOptions.exclude`), how the client shows what stands at a position
+    /// (`capabilities.textDocument.hover.contentFormat`), and the unit of positions from then on: `utf-8` where the client offers that
+    /// (`capabilities.general.positionEncodings`), else `utf-16`.
     Initialize {
         id: Id,
         folders: Folders,
@@ -30,6 +32,7 @@ pub enum Message {
         files: Seq<Text>,
         exclude: Seq<Text>,
         markup: Markup,
+        encoding: Encoding,
     },
     /// `initialized`.
     Initialized,

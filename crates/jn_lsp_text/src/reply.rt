@@ -1,4 +1,5 @@
 //! What the server sends.
+use crate::encoding::Encoding;
 use crate::id::Id;
 use crate::markup::Markup;
 use crate::{Position, Range};
@@ -83,9 +84,10 @@ pub struct Hover {
 /// A message of the server (Language Server Protocol 3.17).
 #[derive(Drop)]
 pub enum Reply {
-    /// The answer to `initialize`: what the server can do.
+    /// The answer to `initialize`: what the server can do, and the unit of positions from then on (`positionEncoding`).
     Capabilities {
         id: Id,
+        encoding: Encoding,
     },
     /// The answer to a request without a result (`shutdown`).
     Done {

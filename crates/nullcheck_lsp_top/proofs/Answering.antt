@@ -65,7 +65,7 @@ doubted_as None name = (refl, refl)
 doubted_as (Some place) name = (refl, refl)
 
 placed_asks : (root : Root) (message : Message) → AsksAs (placed root message) message
-placed_asks root (Initialize id folders infer files exclude markup) = (refl, refl)
+placed_asks root (Initialize id folders infer files exclude markup encoding) = (refl, refl)
 placed_asks root Initialized = (refl, refl)
 placed_asks root (DidOpen name version text) = opened_as (placed_name root name) name version text
 placed_asks root (DidChange name version changes) = changed_as (placed_name root name) name version changes

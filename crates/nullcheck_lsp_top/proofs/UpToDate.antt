@@ -128,4 +128,4 @@ pub up_to_date : ((infer : Infer) (events : List Event) (replies : List Reply) (
 up_to_date law infer held old new client frames replies h =
     let t = heard_all held old new (new_client infer) client frames replies h in
     let last : (λ name. last_published name [] t.said) ≡ (λ name. last_published name [] replies) = λ i name. sym (t.same name []) i in
-    subst (ArePublishedLast client.server.workspace.infer client.server.last client.server.workspace.unknown (files_of client.server.workspace)) last (law infer t.events t.said client.server t.serves)
+    subst (ArePublishedLast client.server.workspace.infer client.server.workspace.encoding client.server.last client.server.workspace.unknown (files_of client.server.workspace)) last (law infer t.events t.said client.server t.serves)

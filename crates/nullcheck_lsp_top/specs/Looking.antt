@@ -38,7 +38,7 @@ new_client infer = record { server = new_server infer; root = root_of no_folders
 
 -- `initialize` says where the files are
 abbrev pub root_in : Message → Option Root
-root_in (Initialize id folders infer files exclude markup) = Some (root_of folders files exclude)
+root_in (Initialize id folders infer files exclude markup encoding) = Some (root_of folders files exclude)
 root_in Initialized = None
 root_in (DidOpen name version text) = None
 root_in (DidChange name version changes) = None

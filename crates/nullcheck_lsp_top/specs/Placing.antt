@@ -86,7 +86,7 @@ or_ignored (Some m) = m
 
 -- a message as the server takes it: documents by the names of the workspace's files, and nothing of others
 abbrev pub placed : Root → Message → Message
-placed root (Initialize id folders infer files exclude markup) = Initialize id folders infer files exclude markup
+placed root (Initialize id folders infer files exclude markup encoding) = Initialize id folders infer files exclude markup encoding
 placed root Initialized = Initialized
 placed root (DidOpen name version text) = or_ignored (option_map (λ n. DidOpen n version text) (placed_name root name))
 placed root (DidChange name version changes) = or_ignored (option_map (λ n. DidChange n version changes) (placed_name root name))

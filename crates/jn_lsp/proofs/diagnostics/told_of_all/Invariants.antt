@@ -4,5 +4,5 @@ use Rattle.jn_lsp.proofs.diagnostics.told_of_all.Given as goal
 
 abbrev pub invariant-loop-at : goal.invariant-loop-at
 invariant-loop-at l =
-    let diagnostics = diagnostics_at l.files l.rows l.notes in
+    let diagnostics = diagnostics_at l.encoding l.files l.rows l.notes in
     l.told.items ++ told_from diagnostics l.at (drop l.at l.files) ≡ told_from diagnostics 0 l.files

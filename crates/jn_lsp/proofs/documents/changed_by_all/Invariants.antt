@@ -3,4 +3,4 @@ use Rattle.jn_lsp.specs.Edits.{AreChanged}
 use Rattle.jn_lsp.proofs.documents.changed_by_all.Given as goal
 
 abbrev pub invariant-loop-change : goal.invariant-loop-change
-invariant-loop-change l = AreChanged (take l.change-index l.changes) l.text l.made
+invariant-loop-change l = AreChanged l.encoding (take l.change-index l.changes) l.text l.made

@@ -9,6 +9,6 @@ pub loop-row-preserved : goal.loop-row-preserved
 loop-row-preserved c =
     let lt : c.loop-row.row-index < length c.args.rows.now = omega (arith, c.loop-row-test.true) in
     let solved = c.args.solved.now in
-    let asked = is_asked_row solved.files.now c.args.asked.now.name.now c.args.asked.now.range in
-    let test = is_written solved.files.now solved.tokens.now (map file_view solved.trees.now) solved.program.now solved.sig.now in
+    let asked = is_asked_row solved.encoding solved.files.now c.args.asked.now.name.now c.args.asked.now.range in
+    let test = is_written solved.encoding solved.files.now solved.tokens.now (map file_view solved.trees.now) solved.program.now solved.sig.now in
     row_more solved.program.now solved.sig.now c.args.tables.now test asked c.args.rows.now c.loop-row.row-index _ c.in_ok-slot.slot c.loop-row.slots.items c.put.new.items.items lt c.in_ok-slot.ensures c.in_ok-put.ensures c.loop-row.invariant

@@ -4,4 +4,4 @@ use Rattle.jn_lsp_actions.specs.Written.{insertion_at}
 use Rattle.jn_lsp_actions.proofs.edits.insertions_of.Given as goal
 
 abbrev pub invariant-loop-put : goal.invariant-loop-put
-invariant-loop-put l = l.made ≡ map (insertion_at l.text) (insertions (take l.put-index l.puts))
+invariant-loop-put l = l.made ≡ map (insertion_at l.encoding l.text) (insertions (take l.put-index l.puts))

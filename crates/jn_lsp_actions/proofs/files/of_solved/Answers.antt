@@ -16,6 +16,7 @@ lex_all-requires-clause-lexes c =
 pub returns : goal.returns
 returns c =
     let files = c.args.files.now in
+    let encoding = c.args.asked.now.encoding in
     let name = c.args.asked.now.name.now in
     let range = c.args.asked.now.range in
     let names = c.args.names.now in
@@ -23,5 +24,5 @@ returns c =
     let typed = c.requires.program.0 in
     let lexed = subst (λ (fs : List SourceFile). LexedFrom 0 known_names fs typed.of_files.tokens names) (sym c.requires.whole) typed.of_files.lowered.declared.parsed.lexed in
     let same = c.deref.ensures.value ∙ c.in_ok-tokens.ensures typed.of_files.tokens names lexed in
-    let are = subst (λ (P : Program). AreOfRules files name range names c.deref.result.now views P c.args.sig.now c.args.rows.now c.in_ok-actions.actions) c.program-2.ensures.is c.in_ok-actions.ensures in
-    of_checked c.args.asked.now.infer files name range names c.args.base.now c.args.sig.now c.deref.result.now c.args.trees.now c.args.rows.now c.in_ok-actions.actions c.places_are_forgotten.ensures.view typed c.requires.program.1 same c.requires.least c.requires.rows are
+    let are = subst (λ (P : Program). AreOfRules encoding files name range names c.deref.result.now views P c.args.sig.now c.args.rows.now c.in_ok-actions.actions) c.program-2.ensures.is c.in_ok-actions.ensures in
+    of_checked c.args.asked.now.infer encoding files name range names c.args.base.now c.args.sig.now c.deref.result.now c.args.trees.now c.args.rows.now c.in_ok-actions.actions c.places_are_forgotten.ensures.view typed c.requires.program.1 same c.requires.least c.requires.rows are

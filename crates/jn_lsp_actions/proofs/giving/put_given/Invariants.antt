@@ -6,7 +6,7 @@ use Rattle.jn_lsp_actions.proofs.giving.put_given.Given as goal
 
 abbrev pub invariant-loop-rest : goal.invariant-loop-rest
 invariant-loop-rest l =
-    let one = give l.solved.files.now l.solved.names.now l.solved.tokens.now (map file_view l.solved.trees.now) l.solved.program.now l.solved.sig.now l.writing in
+    let one = give l.solved.encoding l.solved.files.now l.solved.names.now l.solved.tokens.now (map file_view l.solved.trees.now) l.solved.program.now l.solved.sig.now l.writing in
     l.actions ++ spec.given one l.rest ≡ l.fn.actions ++ spec.given one l.slots
 
 abbrev pub decreases-loop-rest : goal.decreases-loop-rest

@@ -5,7 +5,7 @@ use Rattle.jn_lsp_actions.proofs.hinting.hints_for.Goals as goal
 
 pub returns-then-files-gt-MOST_FILES : goal.returns-then-files-gt-MOST_FILES
 returns-then-files-gt-MOST_FILES g c =
-    of_refused c.args.infer c.args.files.now c.args.name.now c.args.range _ c.new.result (c.in_ok-too_many_files.ensures.phase c.args.infer c.args.files.now c.if-files-gt-MOST_FILES.true) c.new.ensures
+    of_refused c.args.infer c.args.encoding c.args.files.now c.args.name.now c.args.range _ c.new.result (c.in_ok-too_many_files.ensures.phase c.args.infer c.args.files.now c.if-files-gt-MOST_FILES.true) c.new.ensures
 
 pub type_files-requires-clause-few : goal.type_files-requires-clause-few
 type_files-requires-clause-few g c κs within =

@@ -16,6 +16,7 @@ lex_all-requires-clause-lexes c =
 pub returns : goal.returns
 returns c =
     let files = c.args.files.now in
+    let encoding = c.args.asked.now.encoding in
     let name = c.args.asked.now.name.now in
     let range = c.args.asked.now.range in
     let names = c.args.names.now in
@@ -23,5 +24,5 @@ returns c =
     let typed = c.requires.program.0 in
     let lexed = subst (λ (fs : List SourceFile). LexedFrom 0 known_names fs typed.of_files.tokens names) (sym c.requires.whole) typed.of_files.lowered.declared.parsed.lexed in
     let same = c.deref.ensures.value ∙ c.in_ok-tokens.ensures typed.of_files.tokens names lexed in
-    let are = subst (λ (P : Program). c.in_ok-hints.hints ≡ hints_of name range files c.deref.result.now views P c.args.sig.now) c.program.ensures.is c.in_ok-hints.ensures in
-    of_inferred c.args.asked.now.infer files name range names c.args.base.now c.args.sig.now c.deref.result.now c.args.trees.now c.in_ok-hints.hints c.places_are_forgotten.ensures.view typed c.requires.program.1 same c.requires.least are
+    let are = subst (λ (P : Program). c.in_ok-hints.hints ≡ hints_of encoding name range files c.deref.result.now views P c.args.sig.now) c.program.ensures.is c.in_ok-hints.ensures in
+    of_inferred c.args.asked.now.infer encoding files name range names c.args.base.now c.args.sig.now c.deref.result.now c.args.trees.now c.in_ok-hints.hints c.places_are_forgotten.ensures.view typed c.requires.program.1 same c.requires.least are

@@ -6,9 +6,9 @@ pub loop-at-preserved : goal.loop-at-preserved
 loop-at-preserved c =
     let h = c.loop-at.invariant in
     let lt : c.loop-at.at < length c.args.text.now = omega (arith, c.loop-at-test.true, c.requires.within) in
-    let bounds = few _ _ _ _ c.with-counted.ensures h.lines h.units in
+    let bounds = few _ _ _ _ _ c.with-counted.ensures h.lines h.units in
     record {
-      is = next_counted _ _ _ _ lt h.is c.with-counted.ensures;
+      is = next_counted _ _ _ _ _ lt h.is c.with-counted.ensures;
       lines = bounds.0;
       units = bounds.1;
     }

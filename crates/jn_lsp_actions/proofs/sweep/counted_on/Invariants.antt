@@ -4,7 +4,7 @@ use Rattle.jn_lsp_actions.proofs.sweep.counted_on.Given as goal
 
 abbrev pub invariant-loop-at : goal.invariant-loop-at
 invariant-loop-at l = record {
-  is : l.counted ≡ counted l.text l.at;
+  is : l.counted ≡ counted l.encoding l.text l.at;
   lines : l.counted.lines ≤ l.at;
   units : l.counted.units ≤ 2 * l.at;
 }

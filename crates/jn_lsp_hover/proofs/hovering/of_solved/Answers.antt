@@ -12,6 +12,7 @@ use Rattle.jn_lsp_hover.proofs.hovering.of_solved.Goals as goal
 pub returns : goal.returns
 returns c =
     let infer = c.args.asked.now.infer in
+    let encoding = c.args.asked.now.encoding in
     let files = c.args.files.now in
     let name = c.args.asked.now.name.now in
     let position = c.args.asked.now.position in
@@ -26,5 +27,5 @@ returns c =
     let heads = c.as_slice.result.now in
     let hover = c.in_ok-hover.hover in
     let solved = subst (λ (ts : List Table). AreLeastTables P s ts) (sym c.deref.ensures.value) c.in_ok-tables.ensures in
-    let is = subst (λ (place : Option ℕ). IsAtPlace files names P s tables heads position place hover) c.place_of-place.ensures c.in_ok-hover.ensures in
-    of_inferred infer files name position names P s tables trees heads hover typed.0 typed.1 (c.as_slice.ensures ∙ c.in_ok-heads.ensures) least solved is
+    let is = subst (λ (place : Option ℕ). IsAtPlace encoding files names P s tables heads position place hover) c.place_of-place.ensures c.in_ok-hover.ensures in
+    of_inferred infer encoding files name position names P s tables trees heads hover typed.0 typed.1 (c.as_slice.ensures ∙ c.in_ok-heads.ensures) least solved is

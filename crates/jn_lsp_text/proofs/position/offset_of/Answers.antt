@@ -8,13 +8,13 @@ use Rattle.jn_lsp_text.proofs.position.offset_of.Goals as goal
 pub returns-then-is_beyond-clause-is : goal.returns-then-is_beyond-clause-is
 returns-then-is_beyond-clause-is c =
     let h = c.loop-offset.invariant in
-    offset_here _ _ _ _ _ c.loop-offset-test.true h.counted c.with-next.ensures h.reached (sym c.is_beyond.ensures ∙ c.if-is_beyond.true)
+    offset_here _ _ _ _ _ _ c.loop-offset-test.true h.counted c.with-next.ensures h.reached (sym c.is_beyond.ensures ∙ c.if-is_beyond.true)
 
 pub loop-offset-preserved : goal.loop-offset-preserved
 loop-offset-preserved c =
     let h = c.loop-offset.invariant in
-    let bounds = few _ _ _ _ c.with-next.ensures h.lines h.units in
-    let next : c.with-next.result ≡ spec.counted c.args.text.now (c.loop-offset.offset + 1) = next_counted _ _ _ _ c.loop-offset-test.true h.counted c.with-next.ensures in
+    let bounds = few _ _ _ _ _ c.with-next.ensures h.lines h.units in
+    let next : c.with-next.result ≡ spec.counted c.args.encoding c.args.text.now (c.loop-offset.offset + 1) = next_counted _ _ _ _ _ c.loop-offset-test.true h.counted c.with-next.ensures in
     record {
       counted = next;
       lines = bounds.0;
