@@ -5,4 +5,5 @@ pub mod Phases
 pub mod Possible
 pub mod Stands
 pub mod Stops
+pub mod Told
 pub mod Trees

@@ -1,5 +1,5 @@
 //! The notes of rows of files that have trees: beside a row of the class table or a second local, the other declaration of which it
-//! speaks; beside a member that isn't there, those of its name.
+//! speaks; beside a member that isn't there, those of its name; beside a form that isn't of the subset, its cause.
 ghost use Rattle.std.specs.Prelude.{◌≡◌, ◌<◌, ◌^◌, ◌++◌, length, map, option_map, IfOk, IfSome};
 ghost use Rattle.jn_places.specs.PlacedView.{placed_file};
 ghost use Rattle.jn_heads.specs.Extract as extract;
@@ -17,6 +17,7 @@ use crate::members::{clashing, hidden, lacking};
 use crate::mentioning::Mention;
 use crate::naming::mentions_of;
 use crate::places::{first_class, first_field, first_method, first_param_of, same_span};
+use crate::refused::cause_notes;
 use crate::repeated::{Second, seconds_of};
 use crate::saying::mention_notes;
 use crate::stops::one_note;
@@ -30,8 +31,31 @@ use jn_heads::head::ClassHead;
 use jn_index::index::Index;
 use jn_note_words::{Note, Notes};
 use jn_points::Program;
+use jn_refused_notes::{Refusal, refusals_of};
 use jn_trees::{FileTree, Identifier, Names};
 use std::alloc::{AllocError, Global};
+
+/// What is read off trees: the second locals, the members that are named, and what may not be of the subset.
+#[derive(Drop)]
+pub struct Gathered {
+    pub seconds: Seq<Second>,
+    pub mentions: Seq<Mention>,
+    pub refusals: Seq<Refusal>,
+}
+
+/// Reads it off trees.
+fn gather(alloc: Global, trees: &[FileTree]) -> Result<Gathered, AllocError>
+    ensures { IfOk result (λ gathered. gathered ≡ spec.gathered (map placed_file trees.now)) }
+{
+    let seconds = seconds_of(alloc, trees)?;
+    let mentions = mentions_of(alloc, trees)?;
+    let refusals = refusals_of(alloc, trees)?;
+    Ok(Gathered {
+        seconds,
+        mentions,
+        refusals,
+    })
+}
 
 /// T1: of a class, a field or a parameter.
 fn first_named(heads: &[ClassHead], program: &Program, span: Span) -> Option<Identifier>
@@ -212,8 +236,7 @@ fn notes_of_row(
     heads: &[ClassHead],
     program: &Program,
     index: &Option<Index>,
-    seconds: &[Second],
-    mentions: &[Mention],
+    gathered: &Gathered,
     row: Row,
 ) -> Result<Notes, OutOfMemory>
     requires index { IfSome index.now (λ i. IsIndex program.now i) }
@@ -221,12 +244,18 @@ fn notes_of_row(
     requires small { length program.now.methods < 2 ^ 32 }
     requires short { ParamsFit program.now }
     ensures { IfOk result (λ notes. notes
-        ≡ spec.notes_by names.now heads.now program.now seconds.now mentions.now row.span
-        row.code) }
+        ≡ spec.notes_by names.now heads.now program.now gathered.now row.span row.code) }
 {
     match row.code {
-        Code::J1 => notes_of_other(alloc, names, Code::J1, first_local(seconds, row.span)),
-        Code::J2 => mention_notes(alloc, names, program, mention_at(mentions, row.span)),
+        Code::J1 => {
+            let first = first_local(gathered.seconds.as_slice(), row.span);
+            notes_of_other(alloc, names, Code::J1, first)
+        }
+        Code::J2 => {
+            let named = mention_at(gathered.mentions.as_slice(), row.span);
+            mention_notes(alloc, names, program, named)
+        }
+        Code::J5 => cause_notes(alloc, gathered.refusals.as_slice(), row.span),
         _ => {
             let found = other_by(alloc, heads, program, index, row.span, row.code)?;
             notes_of_other(alloc, names, row.code, elsewhere(row.span, found))
@@ -241,8 +270,7 @@ fn notes_of_rows(
     heads: &[ClassHead],
     program: &Program,
     index: &Option<Index>,
-    seconds: &[Second],
-    mentions: &[Mention],
+    gathered: &Gathered,
     rows: &[Row],
 ) -> Result<Vec<Notes>, OutOfMemory>
     requires index { IfSome index.now (λ i. IsIndex program.now i) }
@@ -250,12 +278,12 @@ fn notes_of_rows(
     requires small { length program.now.methods < 2 ^ 32 }
     requires short { ParamsFit program.now }
     ensures { IfOk result (λ notes. notes.items
-        ≡ map (λ row. spec.notes_by names.now heads.now program.now seconds.now mentions.now
-        row.span row.code) rows.now) }
+        ≡ map (λ row. spec.notes_by names.now heads.now program.now gathered.now row.span row.code)
+        rows.now) }
 {
     let mut list = Vec::new(alloc);
     for row in rows {
-        let notes = notes_of_row(alloc, names, heads, program, index, seconds, mentions, *row)?;
+        let notes = notes_of_row(alloc, names, heads, program, index, gathered, *row)?;
         put(&mut list, notes)?;
     }
     Ok(list)
@@ -267,21 +295,18 @@ fn notes_of_declared(
     alloc: Global,
     names: &Names,
     declared: &Declarations,
-    seconds: &[Second],
-    mentions: &[Mention],
+    gathered: &Gathered,
     rows: &[Row],
 ) -> Result<Vec<Notes>, OutOfMemory>
     requires { SmallTable declared.now }
     ensures { IfOk result (λ notes. notes.items
-        ≡ map (λ row. spec.notes_by names.now declared.now (table declared.now) seconds.now
-        mentions.now row.span row.code) rows.now) }
+        ≡ map (λ row. spec.notes_by names.now declared.now (table declared.now) gathered.now
+        row.span row.code) rows.now) }
 {
     let program = table(alloc, declared)?;
     let index = Index::new(alloc, &program)?;
     let heads = declared.heads();
-    notes_of_rows(
-        alloc, names, heads, &program, &index, seconds, mentions, rows,
-    )
+    notes_of_rows(alloc, names, heads, &program, &index, gathered, rows)
 }
 
 /// The notes of rows of files that have these trees and names, row by row.
@@ -302,14 +327,6 @@ pub fn notes_of_trees(
         return Err(OutOfMemory);
     }
     let declared = Declarations::new(alloc, heads)?;
-    let seconds = seconds_of(alloc, trees)?;
-    let mentions = mentions_of(alloc, trees)?;
-    notes_of_declared(
-        alloc,
-        names,
-        &declared,
-        seconds.as_slice(),
-        mentions.as_slice(),
-        rows,
-    )
+    let gathered = gather(alloc, trees)?;
+    notes_of_declared(alloc, names, &declared, &gathered, rows)
 }

@@ -11,8 +11,7 @@ pub returns : goal.returns
 returns c =
     let names = c.args.names.now in
     let rows = c.args.rows.now in
-    let ss = c.args.seconds.now in
-    let ms = c.args.mentions.now in
+    let g = c.args.gathered.now in
     let made = c.notes_of_rows.result in
-    subst (λ (hs : List ClassHead). IfOk made (λ notes. notes.items ≡ map (λ (row : Row). notes_by names hs (table c.args.declared.now) ss ms row.span row.code) rows)) c.heads-heads.ensures
-    (subst (λ (P : Program). IfOk made (λ notes. notes.items ≡ map (λ (row : Row). notes_by names c.heads-heads.result.now P ss ms row.span row.code) rows)) c.in_ok-program.ensures c.notes_of_rows.ensures)
+    subst (λ (hs : List ClassHead). IfOk made (λ notes. notes.items ≡ map (λ (row : Row). notes_by names hs (table c.args.declared.now) g row.span row.code) rows)) c.heads-heads.ensures
+    (subst (λ (P : Program). IfOk made (λ notes. notes.items ≡ map (λ (row : Row). notes_by names c.heads-heads.result.now P g row.span row.code) rows)) c.in_ok-program.ensures c.notes_of_rows.ensures)

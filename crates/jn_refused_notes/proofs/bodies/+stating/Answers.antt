@@ -1,0 +1,5 @@
+use Rattle.jn_refused_notes.proofs.Shown.{block_shown, on_ok}
+use Rattle.jn_refused_notes.proofs.bodies.+stating.Goals as goal
+
+pub statement-returns-in-Block : goal.statement-returns-in-Block
+statement-returns-in-Block t c = on_ok c.statements.result (λ h. block_shown c.args.tree.now c.in-Block.inner c.in-Block.span _ _ _ c.in-Block.is c.deref.ensures.value h) c.statements.ensures

@@ -1,0 +1,3 @@
+pub mod Marked
+pub mod Refused
+pub mod Told
