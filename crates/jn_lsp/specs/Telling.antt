@@ -1,21 +1,16 @@
 -- What is told of files: the rows of their report, each with its notes, at the files where they stand.
-use Rattle.std.specs.Prelude.{ℕ, ◌+◌, ◌==◌, List, [], ◌∷◌, ◌++◌, drop, map, bytes_eq, Option, Some, None, if◌then◌else◌}
+use Rattle.std.specs.Prelude.{ℕ, ◌+◌, ◌==◌, List, [], ◌∷◌, ◌++◌, drop, bytes_eq, Option, Some, None, if◌then◌else◌}
 use Rattle.jn_base.specs.declared.place.Row.{Row}
 use Rattle.jn_front.specs.declared.source.SourceFile.{SourceFile}
-use Rattle.jn_lsp_hover.specs.Related.{home, range_in, related_of}
+use Rattle.jn_lsp_solved.specs.Related.{diagnostic_of, home}
 use Rattle.jn_lsp_text.specs.declared.encoding.Encoding.{Encoding}
 use Rattle.jn_lsp_text.specs.declared.reply.Diagnostic.{Diagnostic}
-use Rattle.jn_lsp_text.specs.declared.reply.Said.TheVariants as said
 use Rattle.jn_note_words.specs.declared.note.Note.{Note}
 use Rattle.jn_note_words.specs.declared.note.Notes.{Notes}
 use Rattle.jn_recheck.specs.Files.{place_of}
 use Rattle.jn_lsp.specs.declared.diagnostics.Told.{Told}
 
 -- ---- diagnostics
-
--- a row at its range, with these notes
-abbrev pub diagnostic_of : Encoding → List SourceFile → Row → List Note → Diagnostic
-diagnostic_of encoding files row shown = record { range = range_in encoding files row.span; said = said.Row row.code; related = map (related_of encoding files) shown }
 
 -- the notes that are shown of a list's first row; none where the list is shorter
 abbrev pub first_shown : List Notes → List Note

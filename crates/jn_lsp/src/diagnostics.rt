@@ -5,8 +5,8 @@ ghost use Rattle.jn_recheck.specs.Files.{AllFit};
 
 use jn_base::{OutOfMemory, Row, Seq, Text};
 use jn_front::SourceFile;
-use jn_lsp_hover::related::{all_related, home, range_in};
-use jn_lsp_text::{Diagnostic, Encoding, Said};
+use jn_lsp_solved::related::{diagnostic_of, home};
+use jn_lsp_text::{Diagnostic, Encoding};
 use jn_note_words::{Note, Notes};
 use std::alloc::{AllocError, Global};
 
@@ -25,24 +25,6 @@ fn shown_at(notes: &[Notes], at: usize) -> &[Note]
         None => &[],
         Some(notes) => notes.shown.as_slice(),
     }
-}
-
-fn diagnostic_of(
-    alloc: Global,
-    encoding: Encoding,
-    files: &[SourceFile],
-    row: &Row,
-    notes: &[Note],
-) -> Result<Diagnostic, AllocError>
-    requires fit { AllFit files.now }
-    ensures { IfOk result (λ diagnostic. diagnostic
-        ≡ spec.diagnostic_of encoding files.now row.now notes.now) }
-{
-    Ok(Diagnostic {
-        range: range_in(encoding, files, &row.span),
-        said: Said::Row(row.code),
-        related: all_related(alloc, encoding, files, notes)?,
-    })
 }
 
 /// Puts a row's diagnostic after the others, where the row stands at the file of this number.

@@ -3,7 +3,7 @@ ghost use Rattle.std.specs.Prelude.{◌≡◌, ◌<◌, ◌^◌, ◌++◌, ◌�
 ghost use Rattle.jn_base.specs.Place as places;
 ghost use Rattle.jn_lsp.specs.Reported as spec;
 ghost use Rattle.jn_lsp.specs.Telling.{told_from};
-ghost use Rattle.jn_lsp_hover.specs.Related.{home_of};
+ghost use Rattle.jn_lsp_solved.specs.Related.{home_of};
 ghost use Rattle.jn_recheck.specs.Files.{AllFit, is_as_before};
 
 use crate::diagnostics::{Told, diagnostics_at, push, told_of};
@@ -13,7 +13,7 @@ use crate::publishing::told_of as told_before;
 use itoa::{Buffer, Integer};
 use jn_base::{Code, OutOfMemory, Place, Row, Seq, Span, Text, place_of as place_of_span};
 use jn_front::SourceFile;
-use jn_lsp_hover::related::{home, name_of, range_in};
+use jn_lsp_solved::related::{home, name_of, range_in};
 use jn_lsp_text::{Diagnostic, Encoding, Related, Said, copy_diagnostics};
 use jn_note_words::Notes;
 use std::alloc::{AllocError, Global};

@@ -1,6 +1,6 @@
 -- What is shown is what annotated texts have more.
-use Rattle.std.proofs.Common.{◌≡◌, ℕ, suc, ◌+◌, Bool, true, false, not, ◌&&◌, Some, inl, inr, List, [], ◌∷◌, drop, map, refl, sym, ap, ◌∙◌, subst, arith, cond, leb}
-use Rattle.std.specs.Prelude.{bytes_eq, slice_get, slice_index_or}
+use Rattle.std.proofs.Common.{◌≡◌, ℕ, suc, ◌+◌, Bool, true, false, not, ◌&&◌, Some, inl, inr, List, [], ◌∷◌, drop, length, map, refl, sym, ap, ◌∙◌, subst, arith, cond, leb}
+use Rattle.std.specs.Prelude.{bytes_eq, filter, slice_get, slice_index_or}
 use Rattle.std.proofs.lemmas.Bool.{false≢true, leb-false, leb-true}
 use Rattle.jn_annotate.specs.Annotated.{Annotated, HasNone, annotated_from, has_no_spelling, has_shared_type}
 use Rattle.jn_annotate.specs.Imports.{with_lines}
@@ -24,9 +24,13 @@ use Rattle.jn_splice_law.specs.Inserted.{Insertion, inserted}
 use Rattle.jn_transfer.specs.Contributions.{is_inferred}
 use Rattle.jn_trees.specs.declared.token.Token.{Token}
 use Rattle.jn_trees.specs.Trees.{SourceTree}
-use Rattle.jn_lsp_actions.specs.Annotating.{AreAdded, AreAddedIn, Either, text_of}
-use Rattle.jn_lsp_actions.specs.Hinted.{AreInferred, shown, shown_in, unless_shared}
+use Rattle.jn_lsp_actions.specs.Annotating.{AreAdded, AreAddedIn, Either, bare, text_of}
+use Rattle.jn_lsp_actions.specs.Hinted.{AreInferred, hint_at, hints_of, is_shown, shown, shown_in, unless_shared}
+use Rattle.jn_lsp_actions.specs.Slots.{types_slots}
 use Rattle.jn_lsp_actions.specs.Spelled.{spelled, spelled_from}
+use Rattle.jn_lsp_actions.specs.declared.hints.SlotHint.{SlotHint}
+use Rattle.jn_lsp_actions.proofs.Reasoned.{all_bare}
+use Rattle.jn_lsp_actions.proofs.Slotting.{file_long}
 
 -- ---- slots
 
@@ -52,23 +56,44 @@ no_lines : (text : List ℕ) (ts : List Token) (tree : SourceTree) (words : List
 unfolding with_lines
 no_lines text ts tree words = refl
 
-module _ (slots : List SlotInfo) (s : List Qualifier) (encoding : Encoding) (name : List ℕ) (range : Range) where
-  at_file : (named : Bool) (file : SourceFile) (new : List ℕ) (words : List Insertion) (other : Type 0) (hints others : List Hint) → new ≡ inserted file.bytes words → (hints ≡ others → other)
-      → hints ≡ cond named (shown encoding file.bytes range words) others → Either named (AreAdded encoding range file.bytes new hints) other
-  at_file true file new words other hints others put rest e = record { words = words; put = put; are = e }
-  at_file false file new words other hints others put rest e = rest e
+-- with as many slots as words, all words are shown that stand in the range
+without_why : List SlotHint → List Hint
+without_why shown = map (λ (one : SlotHint). bare one.hint) shown
 
-  added : (files : List SourceFile) (tokens : List (List Token)) (trees : List SourceTree) (fs : List Field) (ms : List Method) (hints : List Hint) → hints ≡ shown_in encoding name range slots s files tokens trees fs ms
+one_shown : (encoding : Encoding) (text : List ℕ) (range : Range) (slot : ℕ) (words : Insertion) (b : Bool) (l : List SlotHint) (r : List Hint) → without_why l ≡ r
+    → without_why (cond b (record { slot = slot; hint = hint_at encoding text words } ∷ l) l) ≡ cond b (hint_at encoding text words ∷ r) r
+one_shown encoding text range slot words true l r e = λ i. hint_at encoding text words ∷ e i
+one_shown encoding text range slot words false l r e = e
+
+all_shown : (encoding : Encoding) (text : List ℕ) (range : Range) (slots : List ℕ) (words : List Insertion) → length words ≡ length slots → without_why (shown encoding text range slots words) ≡ filter (is_shown range) (map (hint_at encoding text) words)
+all_shown encoding text range [] [] e = refl
+all_shown encoding text range (k ∷ slots) [] e = refl
+all_shown encoding text range [] (w ∷ words) e = let no : ⊥ = omega (arith, e) in absurd no
+all_shown encoding text range (k ∷ slots) (w ∷ words) e =
+    let same : length words ≡ length slots = omega (arith, e) in
+    one_shown encoding text range k w (is_shown range (hint_at encoding text w)) (shown encoding text range slots words) (filter (is_shown range) (map (hint_at encoding text) words)) (all_shown encoding text range slots words same)
+
+none_bare : (hints : List Hint) → map bare hints ≡ [] → hints ≡ []
+none_bare [] e = refl
+none_bare (hint ∷ hints) e = absurd (cc)
+
+module _ (slots : List SlotInfo) (s : List Qualifier) (encoding : Encoding) (name : List ℕ) (range : Range) where
+  at_file : (named : Bool) (file : SourceFile) (new : List ℕ) (ks : List ℕ) (words : List Insertion) (other : Type 0) (hints : List Hint) (others : List SlotHint) → new ≡ inserted file.bytes words → length words ≡ length ks → (map bare hints ≡ without_why others → other)
+      → map bare hints ≡ without_why (cond named (shown encoding file.bytes range ks words) others) → Either named (AreAdded encoding range file.bytes new hints) other
+  at_file true file new ks words other hints others put long rest e = record { words = words; put = put; are = e ∙ all_shown encoding file.bytes range ks words long }
+  at_file false file new ks words other hints others put long rest e = rest e
+
+  added : (files : List SourceFile) (tokens : List (List Token)) (trees : List SourceTree) (fs : List Field) (ms : List Method) (hints : List Hint) → map bare hints ≡ without_why (shown_in encoding name range slots s files tokens trees fs ms)
       → AreAddedIn encoding name range files (annotated_from false slots s (map text_of files) tokens trees fs ms) hints
-  added [] tokens trees fs ms hints e = e
-  added (file ∷ files) [] trees fs ms hints e = e
-  added (file ∷ files) (ts ∷ tokens) [] fs ms hints e = e
+  added [] tokens trees fs ms hints e = none_bare hints e
+  added (file ∷ files) [] trees fs ms hints e = none_bare hints e
+  added (file ∷ files) (ts ∷ tokens) [] fs ms hints e = none_bare hints e
   added (file ∷ files) (ts ∷ tokens) (tree ∷ trees) fs ms hints e =
       let words = in_file slots s file.bytes ts tree fs ms in
       let fields = drop (file_fields tree.types) fs in
       let methods = drop (file_methods tree.types) ms in
-      at_file (bytes_eq file.name name) file (inserted file.bytes (with_lines false file.bytes ts tree words)) words (AreAddedIn encoding name range files (annotated_from false slots s (map text_of files) tokens trees fields methods) hints) hints (shown_in encoding name range slots s files tokens trees fields methods)
-      (ap (inserted file.bytes) (no_lines file.bytes ts tree words)) (added files tokens trees fields methods hints) e
+      at_file (bytes_eq file.name name) file (inserted file.bytes (with_lines false file.bytes ts tree words)) (types_slots slots tree.types fs ms) words (AreAddedIn encoding name range files (annotated_from false slots s (map text_of files) tokens trees fields methods) hints) hints (shown_in encoding name range slots s files tokens trees fields methods)
+      (ap (inserted file.bytes) (no_lines file.bytes ts tree words)) (file_long slots s file.bytes ts tree fs ms) (added files tokens trees fields methods hints) e
 
 -- ---- shared types
 
@@ -101,6 +126,8 @@ of_annotated infer encoding files name range hints new of annotated =
     let s = of.signature in
     let tokens = of.of_files.of_files.tokens in
     let trees = map forget_file of.of_files.of_files.trees in
-    let are : hints ≡ shown_in encoding name range P.slots s files tokens trees P.fields (drop 1 P.methods) =
-    of.are ∙ (λ i. unless_shared (no_shared P s trees annotated.alone i) (shown_in encoding name range (same_slots P s annotated.spelled i) s files tokens trees P.fields (drop 1 P.methods))) in
+    let found = hints_of encoding name range files tokens trees P s in
+    let are : map bare hints ≡ without_why (shown_in encoding name range P.slots s files tokens trees P.fields (drop 1 P.methods)) =
+    all_bare encoding files of.names P s of.are.tables found hints of.are.each
+    ∙ (λ i. without_why (unless_shared (no_shared P s trees annotated.alone i) (shown_in encoding name range (same_slots P s annotated.spelled i) s files tokens trees P.fields (drop 1 P.methods)))) in
     subst (λ (texts : List (List ℕ)). AreAddedIn encoding name range files texts hints) (sym annotated.are) (added P.slots s encoding name range files tokens trees P.fields (drop 1 P.methods) hints are)

@@ -6,3 +6,5 @@ pub mod Showing
 pub mod Annotated
 pub mod Wanting
 pub mod Taken
+pub mod Slotting
+pub mod Reasoned

@@ -6,6 +6,7 @@ pub mod Nulls
 pub mod Written
 pub mod Own
 pub mod Offered
+pub mod Slots
 pub mod Hinted
 pub mod Annotating
 pub mod Taking

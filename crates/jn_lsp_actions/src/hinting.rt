@@ -6,14 +6,18 @@ ghost use Rattle.jn_front.specs.Files.{files_of_reads};
 ghost use Rattle.jn_inference_law.specs.Solution.{IsLeastSignature};
 ghost use Rattle.jn_places.specs.PlacedView.{placed_file};
 ghost use Rattle.jn_recheck.specs.Files.{AllFit};
+ghost use Rattle.jn_tables_law.specs.Inferable.{IsInferable};
 ghost use Rattle.jn_trees.specs.View.{file_view};
 ghost use Rattle.jn_phases.specs.Phases.{IsTypedOr, TypedProgramOf};
 ghost use Rattle.jn_lsp_actions.specs.Hinted as spec;
+ghost use Rattle.jn_lsp_actions.specs.Slots.{types_slots};
 ghost use Rattle.jn_lsp_actions.specs.Spelled.{spelled};
 
 use crate::choosing::Asked;
+use crate::explaining::with_reasons;
 use crate::files::MOST_FILES;
-use crate::hints::shown;
+use crate::hints::{SlotHint, shown};
+use crate::slots::file_slots;
 use crate::spelled::spelled_program;
 use jn_annotate::files::{fields_behind_types, file_puts, methods_behind_types};
 use jn_annotate::members::next_methods;
@@ -46,16 +50,18 @@ fn file_hints(
     tree: &FileTree,
     fields: &[Field],
     methods: &[Method],
-) -> Result<Seq<Hint>, OutOfMemory>
+) -> Result<Seq<SlotHint>, OutOfMemory>
     requires small { length file.now.bytes < 2 ^ 30 }
     ensures { IfOk result (λ hints. hints
         ≡ spec.shown encoding file.now.bytes range
+        (types_slots program.now.slots (file_view tree.now).types fields.now methods.now)
         (in_file program.now.slots sig.now file.now.bytes tokens.now (file_view tree.now)
         fields.now methods.now)) }
 {
     let text = file.bytes.as_slice();
     let puts = file_puts(alloc, program, sig, text, tokens, tree, fields, methods)?;
-    Ok(shown(alloc, encoding, text, range, &puts)?)
+    let slots = file_slots(alloc, program, &tree.types, fields, methods)?;
+    Ok(shown(alloc, encoding, text, range, &slots, &puts)?)
 }
 
 /// The hints of the first file of the name; the first fields and methods are those that the files declare.
@@ -69,7 +75,7 @@ fn shown_in(
     trees: &[FileTree],
     fields: &[Field],
     methods: &[Method],
-) -> Result<Seq<Hint>, OutOfMemory>
+) -> Result<Seq<SlotHint>, OutOfMemory>
     requires fit { AllFit files.now }
     ensures { IfOk result (λ hints. hints
         ≡ spec.shown_in asked.now.encoding asked.now.name.now asked.now.range program.now.slots sig.now files.now
@@ -124,7 +130,7 @@ fn unshared_hints(
     program: &Program,
     sig: &Sig,
     asked: &Asked,
-) -> Result<Seq<Hint>, OutOfMemory>
+) -> Result<Seq<SlotHint>, OutOfMemory>
     requires fit { AllFit files.now }
     ensures { IfOk result (λ hints. hints
         ≡ spec.shown_in asked.now.encoding asked.now.name.now asked.now.range (spelled sig.now program.now.slots)
@@ -155,7 +161,7 @@ fn hints_of(
     program: &Program,
     sig: &Sig,
     asked: &Asked,
-) -> Result<Seq<Hint>, OutOfMemory>
+) -> Result<Seq<SlotHint>, OutOfMemory>
     requires fit { AllFit files.now }
     ensures { IfOk result (λ hints. hints
         ≡ spec.hints_of asked.now.encoding asked.now.name.now asked.now.range files.now tokens.now
@@ -184,13 +190,23 @@ fn of_solved(
     requires whole { files_of_reads reads.now ≡ files.now }
     requires program { (typed : TypedProgramOf asked.now.infer files.now names.now base.now)
         × (typed.of_files.trees ≡ map placed_file trees.now) }
+    requires inferable { IsInferable base.now }
     requires least { IsLeastSignature base.now sig.now }
     ensures { IfOk result (λ hints.
         spec.AreHints asked.now.infer asked.now.encoding files.now asked.now.name.now asked.now.range hints) }
 {
     places_are_forgotten();
     let tokens = lex_all(alloc, reads)?;
-    let hints = hints_of(alloc, files, &tokens, trees, base.program(), sig, asked)?;
+    let shown = hints_of(alloc, files, &tokens, trees, base.program(), sig, asked)?;
+    let hints = with_reasons(
+        alloc,
+        asked.encoding,
+        files,
+        names,
+        base.indexed(),
+        sig,
+        shown.as_slice(),
+    )?;
     Ok(hints)
 }
 
@@ -263,7 +279,8 @@ fn finish<R: Threads + Sync, G: Gate + Sync>(
 
 /// The words that are shown in a range of the file of a name, where they aren't written, among files whose program is inferred anew by so
 /// many workers, where these members are inferred, and positions count in this unit: those that annotating the files ([`jn_annotate::annotate`]) puts there, but for
-/// lines that import annotations. A worker enters the gate when it takes a file, or infers.
+/// lines that import annotations. With each are the notes of the first chains of its slot, as [`jn_lsp_solved::reasons::reasons_of`] finds them. A
+/// worker enters the gate when it takes a file, or infers.
 ///
 /// None is shown of a slot that no annotation says, nor any where the files are refused before their rules, or where a field shares
 /// its type with one of another qualifier: [`jn_annotate::annotate`] refuses such files. Whether the rules are kept doesn't matter.

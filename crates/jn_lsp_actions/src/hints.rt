@@ -10,6 +10,13 @@ use jn_base::{Seq, Text};
 use jn_lsp_text::{Encoding, Hint, Position, Range};
 use std::alloc::{AllocError, Global};
 
+/// A hint, and the slot whose words it shows.
+#[derive(Drop)]
+pub struct SlotHint {
+    pub slot: u32,
+    pub hint: Hint,
+}
+
 /// The text without this front, where it has it.
 fn without_front<'a>(text: &'a [u8], front: &[u8]) -> &'a [u8]
     ensures { result.now ≡ spec.without_front front.now text.now }
@@ -42,6 +49,7 @@ fn hint_of(alloc: Global, at: Position, words: &[u8]) -> Result<Hint, AllocError
         label: Text::of_string(String::from_utf8_lossy(alloc, label)?),
         space_before: words.starts_with(b" "),
         space_behind: words.ends_with(b" "),
+        related: Seq::new(alloc),
     })
 }
 
@@ -51,45 +59,62 @@ fn is_within(range: Range, at: Position) -> bool
     meets(Range { start: at, end: at }, range)
 }
 
-/// Puts words after the others where their position is in the range.
+/// Puts a slot's words after the others where their position is in the range.
 fn push_within(
     alloc: Global,
-    hints: &mut Seq<Hint>,
+    hints: &mut Seq<SlotHint>,
     range: Range,
+    slot: u32,
     at: Position,
     words: &[u8],
 ) -> Result<(), AllocError>
-    ensures { OnOk result
-        (hints.new ≡ hints.old ++ filter (spec.is_shown range) (spec.hint_of at words.now ∷ [])) }
+    ensures { OnOk result (hints.new
+        ≡ hints.old
+        ++ filter (spec.is_slot_shown range)
+        (record { slot = slot; hint = spec.hint_of at words.now } ∷ [])) }
 {
     if is_within(range, at) {
-        hints.push(hint_of(alloc, at, words)?)
+        hints.push(SlotHint {
+            slot,
+            hint: hint_of(alloc, at, words)?,
+        })
     } else {
         Ok(())
     }
 }
 
-/// Those in a range, of words that are put into a text.
+/// Those in a range, of words that are put into a text for these slots.
 ///
 /// # Errors
 /// No memory was found.
-#[tactic(auto, using(crate::proofs::Showing::shown_more))]
+#[tactic(auto, using(crate::proofs::Showing::next_shown))]
 pub fn shown(
     alloc: Global,
     encoding: Encoding,
     text: &[u8],
     range: Range,
+    slots: &[u32],
     puts: &[Put],
-) -> Result<Seq<Hint>, AllocError>
+) -> Result<Seq<SlotHint>, AllocError>
     requires small { length text.now < 2 ^ 30 }
-    ensures { IfOk result (λ hints. hints ≡ spec.shown encoding text.now range (insertions puts.now)) }
+    ensures { IfOk result
+        (λ hints. hints ≡ spec.shown encoding text.now range slots.now (insertions puts.now)) }
 {
     let mut hints = Seq::new(alloc);
     let mut place = start_of(encoding, text);
-    for put in puts {
-        let (next, at) = place_of(encoding, text, place, put.at);
-        push_within(alloc, &mut hints, range, at, put.words.as_slice())?;
-        place = next;
+    let mut rest = slots;
+    let mut left = puts;
+    while let [slot, more @ ..] = rest {
+        match left {
+            [] => return Ok(hints),
+            [put, others @ ..] => {
+                let (next, at) = place_of(encoding, text, place, put.at);
+                push_within(alloc, &mut hints, range, *slot, at, put.words.as_slice())?;
+                place = next;
+                rest = more;
+                left = others;
+            }
+        }
     }
     Ok(hints)
 }

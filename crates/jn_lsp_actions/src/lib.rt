@@ -6,20 +6,22 @@
 //! slot. After those it offers `@Nullable` at what takes the row's value, where that may be null, and at each slot of an overriding pair that
 //! lacks the null of its partner, where the word can be written alone. Nothing is claimed of what the files mean with these words.
 //!
-//! [`hints_for`] infers the files' program anew, and gives the words that annotating puts in a range of a file
-//! (Language Server Protocol 3.17, "Inlay Hint Request").
+//! [`hints_for`] infers the files' program anew, and gives the words that annotating puts in a range of a file, each with
+//! why its slot has what it has (Language Server Protocol 3.17, "Inlay Hint Request").
 #![tactic(auto)]
 
 pub mod alone;
 pub mod asking;
 pub mod choosing;
 pub mod edits;
+pub mod explaining;
 pub mod files;
 pub mod giving;
 pub mod hinting;
 pub mod hints;
 pub mod law;
 pub mod nullable;
+pub mod slots;
 pub mod spelled;
 pub mod sweep;
 pub mod wants;

@@ -403,7 +403,7 @@ fn put_type(
 
 /// The methods after those of a type.
 #[tactic(auto, using(crate::proofs::Wanting::and_nothing))]
-fn methods_behind_type<'p>(methods: &'p [Method], declared: &TypeTree) -> &'p [Method]
+pub(crate) fn methods_behind_type<'p>(methods: &'p [Method], declared: &TypeTree) -> &'p [Method]
     ensures { result.now ≡ drop (type_methods (type_view declared.now)) methods.now }
 {
     methods_behind_types(methods, slice::from_ref(declared))

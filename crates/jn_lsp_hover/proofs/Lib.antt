@@ -1,4 +1,3 @@
-pub mod Fitting
 pub mod Searching
 pub mod Inside
 pub mod Declaring

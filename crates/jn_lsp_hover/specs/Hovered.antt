@@ -1,6 +1,6 @@
 -- What is shown at a position of a file (Language Server Protocol 3.17, "Hover Request"): what the value may be whose text is the narrowest there, or else
 -- what a declared name's slot has, and why.
-use Rattle.std.specs.Prelude.{ℕ, ◌≡◌, ◌⊎◌, cond, List, [], ◌++◌, filter, map, Option, Some, None, option_map, slice_index_or}
+use Rattle.std.specs.Prelude.{ℕ, ◌≡◌, ◌⊎◌, List, [], filter, map, Option, Some, None, option_map, slice_index_or}
 use Rattle.jn_base.specs.declared.infer.Infer.{Infer}
 use Rattle.jn_base.specs.declared.place.Row.{Row}
 use Rattle.jn_base.specs.declared.number.SlotNo.{SlotNo}
@@ -16,22 +16,17 @@ use Rattle.jn_lsp_text.specs.declared.encoding.Encoding.{Encoding}
 use Rattle.jn_lsp_text.specs.declared.position.Position.{Position}
 use Rattle.jn_lsp_text.specs.declared.reply.Hover.{Hover}
 use Rattle.jn_note_words.specs.declared.note.Note.{Note}
-use Rattle.jn_note_words.specs.declared.note.Notes.{Notes}
-use Rattle.jn_notes.specs.Noted.{AreFrom, AreLeastTables}
+use Rattle.jn_notes.specs.Noted.{AreLeastTables}
 use Rattle.jn_phases.specs.Phases.{IsPhase, TypedProgramOf}
 use Rattle.jn_points.specs.declared.program.Program.{Program}
 use Rattle.jn_quals.specs.Order.{no_qual}
 use Rattle.jn_quals.specs.Qualifier.{Qualifier}
-use Rattle.jn_reasons_law.specs.Items.{on}
-use Rattle.jn_reasons_law.specs.declared.item.Bit.{Bit}
-use Rattle.jn_reasons_law.specs.declared.item.Bit.TheVariants.{Nullable, Free}
-use Rattle.jn_reasons_law.specs.declared.item.Item.{Item}
-use Rattle.jn_reasons_law.specs.declared.item.Item.TheVariants.{AtSlot}
 use Rattle.jn_recheck.specs.Files.{place_of}
 use Rattle.jn_lsp_hover.specs.declared.declared.Declared.{Declared}
 use Rattle.jn_lsp_hover.specs.declared.spot.Spot.{Spot}
 use Rattle.jn_lsp_hover.specs.Declarations.{declared_at, declared_in}
-use Rattle.jn_lsp_hover.specs.Related.{no_file, related_of}
+use Rattle.jn_lsp_solved.specs.Reasons.{AreReasons}
+use Rattle.jn_lsp_solved.specs.Related.{no_file, related_of}
 use Rattle.jn_lsp_hover.specs.Spots.{IsNarrowestOf, is_there, spots_of}
 use Rattle.jn_lsp_hover.specs.Values.{qual_of}
 use Rattle.jn_lsp_hover.specs.Worded.{qual_words, slot_words}
@@ -39,19 +34,6 @@ use Rattle.jn_lsp_hover.specs.Worded.{qual_words, slot_words}
 -- what is shown of a value whose text stands at the span
 abbrev pub value_hover : Encoding → List ℕ → Span → Qualifier → Hover
 value_hover encoding text span q = record { range = range_at encoding text span.from span.to; words = qual_words q; related = [] }
-
--- the item of a slot's bit, where it has that
-abbrev pub bit_item : ℕ → Qualifier → Bit → Option Item
-bit_item k q bit = cond (on bit q) (Some (AtSlot k bit)) None
-
-module _ (files : List SourceFile) (names : List (List ℕ)) (P : Program) (s : List Qualifier) (tables : List Table) where
-  -- the notes of the first chain of each bit that a slot has: that it may be null, and then that it may be under construction
-  pub record AreReasons (k : ℕ) (notes : List Note) : Type 0 where
-    pub null : Notes
-    pub free : Notes
-    pub of_null : AreFrom P names s tables (bit_item k (slice_index_or s k no_qual) Nullable) null
-    pub of_free : AreFrom P names s tables (bit_item k (slice_index_or s k no_qual) Free) free
-    pub are : notes ≡ null.shown ++ free.shown
 
 module _ (encoding : Encoding) (files : List SourceFile) (names : List (List ℕ)) (P : Program) (s : List Qualifier) (tables : List Table) where
   -- what is shown of a slot, whose name stands at the span
@@ -61,7 +43,7 @@ module _ (encoding : Encoding) (files : List SourceFile) (names : List (List ℕ
   -- of a declared name with this slot: what the slot has; nothing where it has none
   abbrev pub IsOfSlot : List ℕ → Span → Option SlotNo → Option Hover → Type 0
   IsOfSlot text span None hover = hover ≡ None
-  IsOfSlot text span (Some k) hover = (notes : List Note) × AreReasons files names P s tables k.0 notes × (hover ≡ Some (slot_hover text span k.0 notes))
+  IsOfSlot text span (Some k) hover = (notes : List Note) × AreReasons names P s tables k.0 notes × (hover ≡ Some (slot_hover text span k.0 notes))
 
   -- the same where no name may stand
   abbrev pub IsOfDeclared : List ℕ → Option Declared → Option Hover → Type 0

@@ -3,16 +3,13 @@
 //!
 //! [`hover_for`] infers the files' program anew. At a position it takes the narrowest text that a point reads or makes ([`search`]), and says
 //! what the value may be there by the least table of its body ([`values`]). Where there is none, it takes the field, method or parameter whose name
-//! stands there ([`declared`]), and says what its slot has, with the first chain of causes of each bit ([`reasons`]), as notes say them.
+//! stands there ([`declared`]), and says what its slot has, with the first chain of causes of each bit ([`jn_lsp_solved::reasons`]), as notes say them.
 #![tactic(auto)]
 
 pub mod declared;
 pub mod hovering;
 pub mod law;
-pub mod reasons;
-pub mod related;
 pub mod search;
-pub mod solved;
 pub mod sought;
 pub mod spot;
 pub mod values;

@@ -1,5 +1,5 @@
 -- Replies as JSON (JSON-RPC 2.0; Language Server Protocol 3.17). The members of an object stand in the order of their names' bytes.
-use Rattle.std.specs.Prelude.{ℕ, ℤ, pos, neg_ℤ, ◌+◌, ◌++◌, true, List, Option, Some, None, codes, decimal, flat_map, map}
+use Rattle.std.specs.Prelude.{ℕ, ℤ, pos, neg_ℤ, ◌+◌, ◌++◌, true, List, [], ◌∷◌, Option, Some, None, codes, decimal, flat_map, map}
 use Rattle.serde_json.specs.Data.{Data, null, boolean, number, string, array, object, unsigned, Members, no_members, member, no_items, item}
 use Rattle.serde_json.specs.Find.{of_integer}
 use Rattle.serde_json.specs.View.{items_of}
@@ -111,7 +111,31 @@ action_data a =
     (member (codes "kind") (string (codes "quickfix"))
     (one (codes "title") (string a.title))))
 
+-- ---- places that tell why
+
+-- the line on which a place begins, from 1 on
+abbrev pub line_words : Related → List ℕ
+line_words r = decimal (r.range.start.line + 1)
+
+-- a place, and what it has to do with what is shown
+abbrev pub place_words : Related → List ℕ
+place_words r = r.words ++ codes " at " ++ r.name ++ codes ":" ++ line_words r
+
+-- a place on a line of its own; in Markdown as an item of a list, with a link to the line
+abbrev pub reason_words : Markup → Related → List ℕ
+reason_words Plain r = codes "\n" ++ place_words r
+reason_words Markdown r = codes "\n- " ++ r.words ++ codes " at [line " ++ line_words r ++ codes "](<" ++ uri_of r.name ++ codes "#L" ++ line_words r ++ codes ">)"
+
 -- ---- inlay hints
+
+-- places, each on a line of its own
+abbrev pub tooltip_words : Related → List Related → List ℕ
+tooltip_words r more = place_words r ++ flat_map (reason_words Plain) more
+
+-- none where no place tells why
+abbrev pub tooltip : List Related → Members
+tooltip [] = no_members
+tooltip (r ∷ more) = one (codes "tooltip") (string (tooltip_words r more))
 
 -- kind 1 is that of a type
 unfoldable pub hint_data : Hint → Data
@@ -120,18 +144,9 @@ hint_data h =
     (member (codes "label") (string h.label)
     (member (codes "paddingLeft") (boolean h.space_before)
     (member (codes "paddingRight") (boolean h.space_behind)
-    (one (codes "position") (position_data h.at))))))
+    (member (codes "position") (position_data h.at) (tooltip h.related))))))
 
 -- ---- hovers
-
--- the line on which a place begins, from 1 on
-abbrev pub line_words : Related → List ℕ
-line_words r = decimal (r.range.start.line + 1)
-
--- a place on a line of its own; in Markdown as an item of a list, with a link to the line
-abbrev pub reason_words : Markup → Related → List ℕ
-reason_words Plain r = codes "\n" ++ r.words ++ codes " at " ++ r.name ++ codes ":" ++ line_words r
-reason_words Markdown r = codes "\n- " ++ r.words ++ codes " at [line " ++ line_words r ++ codes "](<" ++ uri_of r.name ++ codes "#L" ++ line_words r ++ codes ">)"
 
 abbrev pub hover_words : Markup → Hover → List ℕ
 hover_words markup h = h.words ++ flat_map (reason_words markup) h.related

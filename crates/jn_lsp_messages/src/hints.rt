@@ -1,12 +1,14 @@
 //! Inlay hints as JSON.
-ghost use Rattle.std.specs.Prelude.{◌≡◌, IfOk};
+ghost use Rattle.std.specs.Prelude.{◌≡◌, ◌∷◌, [], IfOk, codes};
+ghost use Rattle.serde_json.specs.Data.{boolean, member, no_members, number, object, string, unsigned};
 ghost use Rattle.serde_json.specs.View.{view};
 ghost use Rattle.jn_lsp_messages.specs.Outgoing as spec;
 
+use crate::hovers::tooltip_words;
 use crate::places::position_value;
 use jn_base::OutOfMemory;
 use jn_base::lists::put;
-use jn_lsp_text::Hint;
+use jn_lsp_text::{Hint, Related};
 use serde_json::{Value, json};
 use std::alloc::{AllocError, Global};
 
@@ -21,8 +23,19 @@ pub(crate) fn hints_value(alloc: Global, hints: &[Hint]) -> Result<Value, OutOfM
     Ok(Value::Array(items))
 }
 
+fn hint_value(alloc: Global, hint: &Hint) -> Result<Value, OutOfMemory>
+    ensures { IfOk result (λ v. view v ≡ spec.hint_data hint.now) }
+{
+    match hint.related.as_slice() {
+        [] => Ok(bare_value(alloc, hint)?),
+        [first, more @ ..] => explained_value(alloc, hint, first, more),
+    }
+}
+
+/// A hint of which nothing tells why.
 #[tactic(auto, unfolding(crate::specs::Outgoing::hint_data))]
-fn hint_value(alloc: Global, hint: &Hint) -> Result<Value, AllocError>
+fn bare_value(alloc: Global, hint: &Hint) -> Result<Value, AllocError>
+    requires bare { hint.now.related ≡ [] }
     ensures { IfOk result (λ v. view v ≡ spec.hint_data hint.now) }
 {
     let position = position_value(alloc, hint.at)?;
@@ -32,5 +45,55 @@ fn hint_value(alloc: Global, hint: &Hint) -> Result<Value, AllocError>
         "paddingLeft": hint.space_before,
         "paddingRight": hint.space_behind,
         "position": position
+    })
+}
+
+/// A hint of which these places tell why.
+#[tactic(auto, unfolding(crate::specs::Outgoing::hint_data))]
+fn explained_value(
+    alloc: Global,
+    hint: &Hint,
+    first: &Related,
+    more: &[Related],
+) -> Result<Value, OutOfMemory>
+    requires related { hint.now.related ≡ first.now ∷ more.now }
+    ensures { IfOk result (λ v. view v ≡ spec.hint_data hint.now) }
+{
+    let position = position_value(alloc, hint.at)?;
+    let tooltip = tooltip_words(alloc, first, more)?;
+    Ok(explained(
+        alloc,
+        hint.label.as_str(),
+        hint.space_before,
+        hint.space_behind,
+        position,
+        tooltip.as_str(),
+    )?)
+}
+
+/// The object of a hint with a tooltip, from the values of its members.
+fn explained(
+    alloc: Global,
+    label: &str,
+    space_before: bool,
+    space_behind: bool,
+    position: Value,
+    tooltip: &str,
+) -> Result<Value, AllocError>
+    ensures { IfOk result (λ v. view v
+        ≡ object (member (codes "kind") (number (unsigned 1))
+        (member (codes "label") (string label.now)
+        (member (codes "paddingLeft") (boolean space_before)
+        (member (codes "paddingRight") (boolean space_behind)
+        (member (codes "position") (view position)
+        (member (codes "tooltip") (string tooltip.now) no_members))))))) }
+{
+    json!(in alloc; {
+        "kind": 1u32,
+        "label": label,
+        "paddingLeft": space_before,
+        "paddingRight": space_behind,
+        "position": position,
+        "tooltip": tooltip
     })
 }

@@ -98,17 +98,38 @@ fn line_words(alloc: Global, related: &Related) -> Result<Text, AllocError>
     Text::of_str(alloc, Buffer::new().format(line))
 }
 
-fn plain_words(alloc: Global, related: &Related) -> Result<Text, AllocError>
-    ensures { IfOk result (λ words. words ≡ spec.reason_words Markup.Plain related.now) }
+/// A place, and what it has to do with what is shown.
+fn place_words(alloc: Global, related: &Related) -> Result<Text, AllocError>
+    ensures { IfOk result (λ words. words ≡ spec.place_words related.now) }
 {
     let line = line_words(alloc, related)?;
-    let mut words = String::from_str(alloc, "\n")?;
-    words.push_str(related.words.as_str())?;
+    let mut words = String::from_str(alloc, related.words.as_str())?;
     words.push_str(" at ")?;
     words.push_str(related.name.as_str())?;
     words.push_str(":")?;
     words.push_str(line.as_str())?;
     Ok(Text::of_string(words))
+}
+
+fn plain_words(alloc: Global, related: &Related) -> Result<Text, AllocError>
+    ensures { IfOk result (λ words. words ≡ spec.reason_words Markup.Plain related.now) }
+{
+    let place = place_words(alloc, related)?;
+    let mut words = String::from_str(alloc, "\n")?;
+    words.push_str(place.as_str())?;
+    Ok(Text::of_string(words))
+}
+
+/// Places, each on a line of its own.
+pub(crate) fn tooltip_words(
+    alloc: Global,
+    first: &Related,
+    more: &[Related],
+) -> Result<Text, OutOfMemory>
+    ensures { IfOk result (λ words. words ≡ spec.tooltip_words first.now more.now) }
+{
+    let words = place_words(alloc, first)?;
+    with_reasons(alloc, Markup::Plain, words.as_str(), more)
 }
 
 fn marked_words(alloc: Global, related: &Related) -> Result<Text, OutOfMemory>

@@ -71,6 +71,8 @@ pub struct Hint {
     pub space_before: bool,
     /// A space stands after them (`paddingRight`).
     pub space_behind: bool,
+    /// Places that tell why (`tooltip`).
+    pub related: Seq<Related>,
 }
 
 /// What is shown of a range of a text (Hover): in words, and places that tell why.

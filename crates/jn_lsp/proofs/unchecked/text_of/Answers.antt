@@ -1,4 +1,4 @@
-use Rattle.jn_lsp_hover.proofs.Fitting.{small_at}
+use Rattle.jn_lsp_solved.proofs.Fitting.{small_at}
 use Rattle.jn_lsp.proofs.unchecked.text_of.Goals as goal
 
 pub returns-in-Some-clause-small : goal.returns-in-Some-clause-small

@@ -1,5 +1,5 @@
 use Rattle.std.proofs.Common.{refl}
-use Rattle.jn_lsp_hover.proofs.Fitting.{small_at}
+use Rattle.jn_lsp_solved.proofs.Fitting.{small_at}
 use Rattle.jn_lsp.proofs.unchecked.unchecked_at.Goals as goal
 
 pub kept-requires-clause-small : goal.kept-requires-clause-small

@@ -4,7 +4,8 @@ use Rattle.jn_front.specs.declared.source.SourceFile.{SourceFile}
 use Rattle.jn_front.specs.Phases.{LexedFrom}
 use Rattle.jn_points.specs.declared.program.Program.{Program}
 use Rattle.jn_trees.specs.View.{file_view}
-use Rattle.jn_lsp_actions.specs.Hinted.{hints_of}
+use Rattle.jn_lsp_actions.specs.Hinted.{HaveReasons, hints_of}
+use Rattle.jn_lsp_actions.specs.declared.hints.SlotHint.{SlotHint}
 use Rattle.jn_lsp_actions.proofs.Showing.{of_inferred}
 use Rattle.jn_lsp_actions.proofs.hinting.of_solved.Goals as goal
 
@@ -24,5 +25,9 @@ returns c =
     let typed = c.requires.program.0 in
     let lexed = subst (λ (fs : List SourceFile). LexedFrom 0 known_names fs typed.of_files.tokens names) (sym c.requires.whole) typed.of_files.lowered.declared.parsed.lexed in
     let same = c.deref.ensures.value ∙ c.in_ok-tokens.ensures typed.of_files.tokens names lexed in
-    let are = subst (λ (P : Program). c.in_ok-hints.hints ≡ hints_of encoding name range files c.deref.result.now views P c.args.sig.now) c.program.ensures.is c.in_ok-hints.ensures in
-    of_inferred c.args.asked.now.infer encoding files name range names c.args.base.now c.args.sig.now c.deref.result.now c.args.trees.now c.in_ok-hints.hints c.places_are_forgotten.ensures.view typed c.requires.program.1 same c.requires.least are
+    let s = c.args.sig.now in
+    let hints = c.in_ok-hints.hints in
+    let shown = subst (λ (P : Program). c.in_ok-shown.shown ≡ hints_of encoding name range files c.deref.result.now views P s) c.program.ensures.is c.in_ok-shown.ensures in
+    let are = subst (λ (found : List SlotHint). HaveReasons encoding files names c.args.base.now s found hints) (c.as_slice.ensures ∙ shown)
+    (subst (λ (P : Program). HaveReasons encoding files names P s c.as_slice.result.now hints) c.indexed.ensures.is c.in_ok-hints.ensures) in
+    of_inferred c.args.asked.now.infer encoding files name range names c.args.base.now s c.deref.result.now c.args.trees.now hints c.places_are_forgotten.ensures.view typed c.requires.program.1 same c.requires.least are

@@ -1,11 +1,11 @@
-//! Notes at the files where they stand.
+//! Rows and notes at the files where they stand.
 ghost use Rattle.std.specs.Prelude.{◌≡◌, map, IfOk};
-ghost use Rattle.jn_lsp_hover.specs.Related as spec;
+ghost use Rattle.jn_lsp_solved.specs.Related as spec;
 ghost use Rattle.jn_recheck.specs.Files.{AllFit};
 
-use jn_base::{Seq, Span, Text};
+use jn_base::{Row, Seq, Span, Text};
 use jn_front::SourceFile;
-use jn_lsp_text::{Encoding, Range, Related, range_of};
+use jn_lsp_text::{Diagnostic, Encoding, Range, Related, Said, range_of};
 use jn_note_words::Note;
 use std::alloc::{AllocError, Global};
 
@@ -93,4 +93,25 @@ pub fn all_related(
         related.push(related_of(alloc, encoding, files, note)?)?;
     }
     Ok(related)
+}
+
+/// A row at its range, with these notes.
+///
+/// # Errors
+/// No memory was found.
+pub fn diagnostic_of(
+    alloc: Global,
+    files: &[SourceFile],
+    row: &Row,
+    notes: &[Note],
+) -> Result<Diagnostic, AllocError>
+    requires fit { AllFit files.now }
+    ensures { IfOk result (λ diagnostic. diagnostic
+        ≡ spec.diagnostic_of files.now row.now notes.now) }
+{
+    Ok(Diagnostic {
+        range: range_in(files, &row.span),
+        said: Said::Row(row.code),
+        related: all_related(alloc, files, notes)?,
+    })
 }

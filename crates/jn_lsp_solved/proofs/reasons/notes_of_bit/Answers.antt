@@ -5,7 +5,7 @@ use Rattle.jn_reasons_law.specs.Chains.{HasChain}
 use Rattle.jn_reasons_law.specs.Items.{on, Stands}
 use Rattle.jn_reasons_law.specs.declared.item.Item.{Item}
 use Rattle.jn_reasons_law.specs.declared.item.Item.TheVariants.{AtSlot}
-use Rattle.jn_lsp_hover.proofs.reasons.notes_of_bit.Goals as goal
+use Rattle.jn_lsp_solved.proofs.reasons.notes_of_bit.Goals as goal
 
 pub notes_from-requires-clause-sized : goal.notes_from-requires-clause-sized
 notes_from-requires-clause-sized c =

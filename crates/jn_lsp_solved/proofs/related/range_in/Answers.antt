@@ -1,5 +1,5 @@
-use Rattle.jn_lsp_hover.proofs.Fitting.{small_at}
-use Rattle.jn_lsp_hover.proofs.related.range_in.Goals as goal
+use Rattle.jn_lsp_solved.proofs.Fitting.{small_at}
+use Rattle.jn_lsp_solved.proofs.related.range_in.Goals as goal
 
 pub range_of-requires-in-Some : goal.range_of-requires-in-Some
 range_of-requires-in-Some c =

@@ -6,7 +6,7 @@ ghost use Rattle.jn_note_words.specs.Owned.{AreOwners};
 ghost use Rattle.jn_quals.specs.Order.{no_qual};
 ghost use Rattle.jn_reasons_law.specs.Items.{on};
 ghost use Rattle.jn_tables_law.specs.Inferable.{IsInferable};
-ghost use Rattle.jn_lsp_hover.specs.Hovered.{AreReasons, bit_item};
+ghost use Rattle.jn_lsp_solved.specs.Reasons.{AreReasons, bit_item};
 
 use crate::solved::Solved;
 use jn_base::{OutOfMemory, SlotNo};
@@ -96,7 +96,7 @@ pub fn reasons_of(
     requires tables { origins.now.tables ≡ solved.now.tables.now }
     requires owners { AreOwners solved.now.program.now owners.now }
     ensures { IfOk result (λ notes.
-        AreReasons solved.now.files.now solved.now.names.now solved.now.program.now
+        AreReasons solved.now.names.now solved.now.program.now
         solved.now.sig.now solved.now.tables.now slot notes.items) }
 {
     let null = notes_of_bit(alloc, solved, origins, owners, slot, Bit::Nullable)?;

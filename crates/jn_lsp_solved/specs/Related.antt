@@ -1,13 +1,16 @@
--- Notes at the files where they stand, as a client shows them (Language Server Protocol 3.17, DiagnosticRelatedInformation).
-use Rattle.std.specs.Prelude.{ℕ, ◌-◌, List, [], codes, length, nat_eq, nat_lt, slice_index_or, take, if◌then◌else◌}
+-- Rows and notes at the files where they stand, as a client shows them (Language Server Protocol 3.17, Diagnostic and DiagnosticRelatedInformation).
+use Rattle.std.specs.Prelude.{ℕ, ◌-◌, List, [], codes, length, map, nat_eq, nat_lt, slice_index_or, take, if◌then◌else◌}
 use Rattle.std.specs.List.{ends_with}
 use Rattle.std.specs.Str.Lossy.{utf8_lossy}
+use Rattle.jn_base.specs.declared.place.Row.{Row}
 use Rattle.jn_base.specs.declared.place.Span.{Span}
 use Rattle.jn_front.specs.declared.source.SourceFile.{SourceFile}
 use Rattle.jn_lsp_text.specs.declared.encoding.Encoding.{Encoding}
 use Rattle.jn_lsp_text.specs.declared.range.Range.{Range}
 use Rattle.jn_lsp_text.specs.Ranges.{range_at}
+use Rattle.jn_lsp_text.specs.declared.reply.Diagnostic.{Diagnostic}
 use Rattle.jn_lsp_text.specs.declared.reply.Related.{Related}
+use Rattle.jn_lsp_text.specs.declared.reply.Said.TheVariants as said
 use Rattle.jn_note_words.specs.declared.note.Note.{Note}
 
 -- the number of the file where a span stands: of no file, the first
@@ -37,3 +40,7 @@ without_lead words = without_ending (codes ":") (without_ending (codes " at") wo
 -- a note at its file and its range; what is no UTF-8 in its words is replaced
 abbrev pub related_of : Encoding → List SourceFile → Note → Related
 related_of encoding files note = record { name = (home_of files note.span).name; range = range_in encoding files note.span; words = utf8_lossy (without_lead note.words) }
+
+-- a row at its range, with these notes
+abbrev pub diagnostic_of : Encoding → List SourceFile → Row → List Note → Diagnostic
+diagnostic_of encoding files row shown = record { range = range_in encoding files row.span; said = said.Row row.code; related = map (related_of encoding files) shown }
