@@ -8,3 +8,4 @@ pub mod Wanting
 pub mod Taken
 pub mod Slotting
 pub mod Reasoned
+pub mod Listing

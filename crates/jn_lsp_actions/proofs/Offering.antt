@@ -1,5 +1,6 @@
 -- Actions of the files' report.
-use Rattle.std.proofs.Common.{◌≡◌, ℕ, true, List, [], ◌∷◌, ◌++◌, map, Option, Some, None, refl, sym, ap, ◌∙◌, subst}
+use Rattle.std.proofs.Common.{◌≡◌, ℕ, true, List, [], ◌∷◌, ◌++◌, map, Some, None, refl, sym, ap, ◌∙◌, subst}
+use Rattle.std.specs.Prelude.{filter}
 use Rattle.std.proofs.lemmas.Bool.{false≢true}
 use Rattle.jn_annotate.specs.Shared.{IsLeast, is_among, shared_slots}
 use Rattle.jn_base.specs.declared.infer.Infer.{Infer}
@@ -11,7 +12,9 @@ use Rattle.jn_inference_law.specs.Solution.{IsLeastSignature}
 use Rattle.jn_lsp_text.specs.declared.encoding.Encoding.{Encoding}
 use Rattle.jn_lsp_text.specs.declared.range.Range.{Range}
 use Rattle.jn_lsp_text.specs.declared.reply.Action.{Action}
-use Rattle.jn_notes.specs.Noted.{AreLeastTables}
+use Rattle.jn_lsp_text.specs.declared.reply.Diagnostic.{Diagnostic}
+use Rattle.jn_note_words.specs.declared.note.Notes.{Notes}
+use Rattle.jn_notes.specs.Noted.{AreLeastTables, AreNotesOf}
 use Rattle.jn_places.specs.Forget.{forget_file}
 use Rattle.jn_places.specs.PlacedView.{placed_file}
 use Rattle.jn_points.specs.declared.program.Program.{Program}
@@ -24,37 +27,47 @@ use Rattle.jn_trees.specs.View.{file_view}
 use Rattle.jn_phases.specs.Phases.{IsPhase, TypedProgramOf}
 use Rattle.jn_report.specs.Report.{IsCheckedBy}
 use Rattle.jn_lsp_actions.specs.declared.edits.Writing.TheVariants.{Null}
-use Rattle.jn_lsp_actions.specs.Offered.{AreActions, AreOfInferred, AreOfRules, AreUnlessShared, AreWritten, given, is_asked_row}
+use Rattle.jn_lsp_actions.specs.Mended.{diagnostics_of}
+use Rattle.jn_lsp_actions.specs.Offered.{AreActions, AreOfAsked, AreOfInferred, AreOfRows, AreOfRules, AreUnlessShared, AreWritten, given_for, is_asked_row}
 use Rattle.jn_lsp_actions.specs.Own.{rows_want}
-use Rattle.jn_lsp_actions.specs.Written.{give}
 
 pub views : ((tree : FileTree) → forget_file (placed_file tree) ≡ file_view tree) → (trees : List FileTree) → map file_view trees ≡ map forget_file (map placed_file trees)
 views view [] = refl
 views view (tree ∷ trees) = λ i. sym (view tree) i ∷ views view trees i
 
-module _ (encoding : Encoding) (files : List SourceFile) (name : List ℕ) (range : Range) (names : List (List ℕ)) (tokens : List (List Token)) (trees : List SourceTree) (P : Program) (s : List Qualifier) where
-  shared : (n : ℕ) (ns : List ℕ) (rows : List Row) (actions : List Action) → is_among n ns ≡ true → actions ≡ [] → AreUnlessShared encoding files name range names tokens trees P s ns rows actions
-  shared n [] rows actions h e = absurd (false≢true h)
-  shared n (m ∷ ns) rows actions h e = e
+module _ (encoding : Encoding) (files : List SourceFile) (names : List (List ℕ)) (tokens : List (List Token)) (trees : List SourceTree) (P : Program) (s : List Qualifier) (rows : List Row) (diagnostics : List Diagnostic) where
+  shared : (n : ℕ) (ns : List ℕ) (actions : List Action) → is_among n ns ≡ true → actions ≡ [] → AreUnlessShared encoding files names tokens trees P s rows diagnostics ns actions
+  shared n [] actions h e = absurd (false≢true h)
+  shared n (m ∷ ns) actions h e = e
 
   -- where a type is shared
-  pub some_shared : (n : ℕ) (rows : List Row) (actions : List Action) → IsLeast (Some n) (shared_slots P s trees P.fields) → actions ≡ [] → AreOfInferred encoding files name range names tokens trees P s rows actions
-  some_shared n rows actions h e = shared n (shared_slots P s trees P.fields) rows actions h.0 e
+  pub some_shared : (n : ℕ) (actions : List Action) → IsLeast (Some n) (shared_slots P s trees P.fields) → actions ≡ [] → AreOfInferred encoding files names tokens trees P s rows diagnostics actions
+  some_shared n actions h e = shared n (shared_slots P s trees P.fields) actions h.0 e
 
   -- where none is
-  pub none_shared : (rows : List Row) (actions : List Action) → IsLeast None (shared_slots P s trees P.fields) → AreWritten encoding files name range names tokens trees P s rows actions → AreOfInferred encoding files name range names tokens trees P s rows actions
-  none_shared rows actions e h = subst (λ (ns : List ℕ). AreUnlessShared encoding files name range names tokens trees P s ns rows actions) (sym e) h
+  pub none_shared : (actions : List Action) → IsLeast None (shared_slots P s trees P.fields) → AreWritten encoding files names tokens trees P s rows diagnostics actions → AreOfInferred encoding files names tokens trees P s rows diagnostics actions
+  none_shared actions e h = subst (λ (ns : List ℕ). AreUnlessShared encoding files names tokens trees P s rows diagnostics ns actions) (sym e) h
 
   -- with those that write null after them
-  pub with_nulls : (tables : List Table) (slots : List (Option ℕ)) (rows : List Row) (inferred all : List Action) → AreLeastTables P s tables → slots ≡ rows_want P s tables (is_asked_row encoding files name range) rows
-      → AreOfInferred encoding files name range names tokens trees P s rows inferred → all ≡ inferred ++ given (give encoding files names tokens trees P s Null) slots → AreOfRules encoding files name range names tokens trees P s rows all
-  with_nulls tables slots rows inferred all solved are h e = record {
+  pub with_nulls : (tables : List Table) (wants : List (List ℕ)) (inferred all : List Action) → AreLeastTables P s tables → wants ≡ rows_want P s tables rows
+      → AreOfInferred encoding files names tokens trees P s rows diagnostics inferred → all ≡ inferred ++ given_for encoding files names tokens trees P s Null wants diagnostics → AreOfRows encoding files names tokens trees P s rows diagnostics all
+  with_nulls tables wants inferred all solved are h e = record {
     inferred = inferred;
-    nulls = given (give encoding files names tokens trees P s Null) slots;
+    nulls = given_for encoding files names tokens trees P s Null wants diagnostics;
     of_inferred = h;
-    of_nulls = record { tables = tables; solved = solved; are = ap (given (give encoding files names tokens trees P s Null)) are };
+    of_nulls = record { tables = tables; solved = solved; are = ap (λ (slots : List (List ℕ)). given_for encoding files names tokens trees P s Null slots diagnostics) are };
     are = e;
   }
+
+-- of rows with their notes, and of those that are asked for
+module _ (encoding : Encoding) (files : List SourceFile) (names : List (List ℕ)) (tokens : List (List Token)) (trees : List SourceTree) (P : Program) (s : List Qualifier) where
+  pub of_noted : (rows : List Row) (notes : List Notes) (diagnostics : List Diagnostic) (actions : List Action) → AreNotesOf P names s rows notes → diagnostics ≡ diagnostics_of encoding files rows notes
+      → AreOfRows encoding files names tokens trees P s rows diagnostics actions → AreOfAsked encoding files names tokens trees P s rows actions
+  of_noted rows notes diagnostics actions noted are h = record { notes = notes; noted = noted; of_rows = subst (λ (ds : List Diagnostic). AreOfRows encoding files names tokens trees P s rows ds actions) are h }
+
+  pub of_those : (name : List ℕ) (range : Range) (rows asked : List Row) (actions : List Action) → asked ≡ filter (is_asked_row encoding files name range) rows → AreOfAsked encoding files names tokens trees P s asked actions
+      → AreOfRules encoding files name range names tokens trees P s rows actions
+  of_those name range rows asked actions are h = subst (λ (rs : List Row). AreOfAsked encoding files names tokens trees P s rs actions) are h
 
 module _ (infer : Infer) (encoding : Encoding) (files : List SourceFile) (name : List ℕ) (range : Range) where
   -- of files that were checked

@@ -5,6 +5,7 @@ pub mod Sweep
 pub mod Nulls
 pub mod Written
 pub mod Own
+pub mod Mended
 pub mod Offered
 pub mod Slots
 pub mod Hinted

@@ -1,6 +1,6 @@
 -- The actions that are offered at a range of a file: for each row there that speaks of a value or a pair, the first slot of its first chain whose annotation
--- can be written; and after those, for each row there, the slots at which it wants null.
-use Rattle.std.specs.Prelude.{ℕ, ◌≡◌, Bool, true, false, cond, ◌||◌, eqb, List, [], ◌∷◌, ◌++◌, map, Option, Some, None}
+-- can be written; and after those, for each row there, the slots at which it wants null. Each tells the diagnostics that it mends.
+use Rattle.std.specs.Prelude.{ℕ, ◌≡◌, Bool, cond, filter, flat_map, List, [], ◌∷◌, ◌++◌, map, Option, Some, None, option_to_list}
 use Rattle.jn_base.specs.declared.infer.Infer.{Infer}
 use Rattle.jn_base.specs.declared.place.Row.{Row}
 use Rattle.jn_command.specs.declared.report.Report.{Report}
@@ -18,13 +18,17 @@ use Rattle.jn_trees.specs.declared.token.Token.{Token}
 use Rattle.jn_trees.specs.Trees.{SourceTree}
 use Rattle.jn_annotate.specs.Shared.{shared_slots}
 use Rattle.jn_notes.specs.Asked.{item_of}
-use Rattle.jn_notes.specs.Noted.{AreLeastTables}
+use Rattle.jn_note_words.specs.declared.note.Notes.{Notes}
+use Rattle.jn_notes.specs.Noted.{AreLeastTables, AreNotesOf}
 use Rattle.jn_lsp_text.specs.declared.encoding.Encoding.{Encoding}
 use Rattle.jn_lsp_text.specs.declared.range.Range.{Range}
 use Rattle.jn_lsp_text.specs.declared.reply.Action.{Action}
+use Rattle.jn_lsp_text.specs.declared.reply.Diagnostic.{Diagnostic}
 use Rattle.jn_report.specs.Report.{IsCheckedBy, IsReport}
 use Rattle.jn_lsp_actions.specs.Asking.{is_asked}
+use Rattle.jn_lsp_actions.specs.declared.edits.Writing.{Writing}
 use Rattle.jn_lsp_actions.specs.declared.edits.Writing.TheVariants.{Inferred, Null}
+use Rattle.jn_lsp_actions.specs.Mended.{comes, diagnostics_of, mended}
 use Rattle.jn_lsp_actions.specs.Own.{rows_want}
 use Rattle.jn_lsp_actions.specs.Written.{give, is_written}
 
@@ -41,82 +45,75 @@ module _ (test : ℕ → Bool) where
   first_slot (step ∷ steps) = slot_if step.item (first_slot steps)
 
 module _ (P : Program) (s : List Qualifier) (tables : List Table) (test : ℕ → Bool) where
-  -- the first one of the first chain from an item
-  abbrev pub IsSlotFrom : Option Item → Option ℕ → Type 0
-  IsSlotFrom None slot = slot ≡ None
-  IsSlotFrom (Some item) slot = (steps : List Step) × IsFirstChain P s tables item steps × (slot ≡ first_slot test steps)
+  -- the first one of the first chain from an item; none where there is no item
+  abbrev pub AreSlotsFrom : Option Item → List ℕ → Type 0
+  AreSlotsFrom None slots = slots ≡ []
+  AreSlotsFrom (Some item) slots = (steps : List Step) × IsFirstChain P s tables item steps × (slots ≡ option_to_list (first_slot test steps))
 
-  abbrev pub IsSlotIf : Bool → Row → Option ℕ → Type 0
-  IsSlotIf false row slot = slot ≡ None
-  IsSlotIf true row slot = IsSlotFrom (item_of P s row tables) slot
-
-  module _ (asked : Row → Bool) where
-    -- of a row that is asked for; another one has none
-    abbrev pub IsSlotOf : Row → Option ℕ → Type 0
-    IsSlotOf row slot = IsSlotIf (asked row) row slot
-
-    -- row by row
-    abbrev pub AreSlotsOf : List Row → List (Option ℕ) → Type 0
-    AreSlotsOf [] [] = Unit {0}
-    AreSlotsOf [] (slot ∷ slots) = ⊥
-    AreSlotsOf (row ∷ rows) [] = ⊥
-    AreSlotsOf (row ∷ rows) (slot ∷ slots) = IsSlotOf row slot × AreSlotsOf rows slots
+  -- row by row
+  abbrev pub AreSlotsOf : List Row → List (List ℕ) → Type 0
+  AreSlotsOf [] [] = Unit {0}
+  AreSlotsOf [] (slots ∷ more) = ⊥
+  AreSlotsOf (row ∷ rows) [] = ⊥
+  AreSlotsOf (row ∷ rows) (slots ∷ more) = AreSlotsFrom (item_of P s row tables) slots × AreSlotsOf rows more
 
 -- ---- actions
 
-abbrev pub is_slot : ℕ → Option ℕ → Bool
-is_slot slot None = false
-is_slot slot (Some other) = eqb other slot
-
-abbrev pub comes : ℕ → List (Option ℕ) → Bool
-comes slot [] = false
-comes slot (other ∷ slots) = is_slot slot other || comes slot slots
-
 module _ (give : ℕ → List Action) where
-  abbrev pub given_here : Option ℕ → List (Option ℕ) → List Action
-  given_here None slots = []
-  given_here (Some slot) slots = cond (comes slot slots) [] (give slot)
-
   -- what is given for slots, once for a slot, where it comes last
-  abbrev pub given : List (Option ℕ) → List Action
+  abbrev pub given : List ℕ → List Action
   given [] = []
-  given (slot ∷ slots) = given_here slot slots ++ given slots
+  given (slot ∷ slots) = cond (comes slot slots) [] (give slot) ++ given slots
+
+module _ (encoding : Encoding) (files : List SourceFile) (names : List (List ℕ)) (tokens : List (List Token)) (trees : List SourceTree) (P : Program) (s : List Qualifier) where
+  -- what is given for the slots of rows, which mends the diagnostics of these rows
+  abbrev pub given_for : Writing → List (List ℕ) → List Diagnostic → List Action
+  given_for writing wants diagnostics = given (give encoding files names tokens trees P s writing (mended wants diagnostics)) (flat_map (λ slots. slots) wants)
+
+  module _ (rows : List Row) (diagnostics : List Diagnostic) where
+    -- those of what is inferred, for rows of the rules with these diagnostics
+    pub record AreWritten (actions : List Action) : Type 0 where
+      pub tables : List Table
+      pub solved : AreLeastTables P s tables
+      pub wants : List (List ℕ)
+      pub each : AreSlotsOf P s tables (is_written encoding files tokens trees P s) rows wants
+      pub are : actions ≡ given_for Inferred wants diagnostics
+
+    -- none where a field shares its type with one of another qualifier, as there is no annotating then
+    abbrev pub AreUnlessShared : List ℕ → List Action → Type 0
+    AreUnlessShared [] actions = AreWritten actions
+    AreUnlessShared (slot ∷ shared) actions = actions ≡ []
+
+    abbrev pub AreOfInferred : List Action → Type 0
+    AreOfInferred actions = AreUnlessShared (shared_slots P s trees P.fields) actions
+
+    -- those that write null where a row wants it
+    pub record AreNulls (actions : List Action) : Type 0 where
+      pub tables : List Table
+      pub solved : AreLeastTables P s tables
+      pub are : actions ≡ given_for Null (rows_want P s tables rows) diagnostics
+
+    -- the first, and then the others
+    pub record AreOfRows (actions : List Action) : Type 0 where
+      pub inferred : List Action
+      pub nulls : List Action
+      pub of_inferred : AreOfInferred inferred
+      pub of_nulls : AreNulls nulls
+      pub are : actions ≡ inferred ++ nulls
+
+  -- those of these rows, each with its notes
+  pub record AreOfAsked (rows : List Row) (actions : List Action) : Type 0 where
+    pub notes : List Notes
+    pub noted : AreNotesOf P names s rows notes
+    pub of_rows : AreOfRows rows (diagnostics_of encoding files rows notes) actions
 
 module _ (encoding : Encoding) (files : List SourceFile) (name : List ℕ) (range : Range) where
   abbrev pub is_asked_row : Row → Bool
   is_asked_row row = is_asked encoding files name range row.span
 
-  module _ (names : List (List ℕ)) (tokens : List (List Token)) (trees : List SourceTree) (P : Program) (s : List Qualifier) where
-    -- those of files with this program and its least signature, of which these are the rows of the rules
-    pub record AreWritten (rows : List Row) (actions : List Action) : Type 0 where
-      pub tables : List Table
-      pub solved : AreLeastTables P s tables
-      pub slots : List (Option ℕ)
-      pub each : AreSlotsOf P s tables (is_written encoding files tokens trees P s) is_asked_row rows slots
-      pub are : actions ≡ given (give encoding files names tokens trees P s Inferred) slots
-
-    -- none where a field shares its type with one of another qualifier, as there is no annotating then
-    abbrev pub AreUnlessShared : List ℕ → List Row → List Action → Type 0
-    AreUnlessShared [] rows actions = AreWritten rows actions
-    AreUnlessShared (slot ∷ shared) rows actions = actions ≡ []
-
-    -- those of what is inferred
-    abbrev pub AreOfInferred : List Row → List Action → Type 0
-    AreOfInferred rows actions = AreUnlessShared (shared_slots P s trees P.fields) rows actions
-
-    -- those that write null where a row wants it
-    pub record AreNulls (rows : List Row) (actions : List Action) : Type 0 where
-      pub tables : List Table
-      pub solved : AreLeastTables P s tables
-      pub are : actions ≡ given (give encoding files names tokens trees P s Null) (rows_want P s tables is_asked_row rows)
-
-    -- the first, and then the others
-    pub record AreOfRules (rows : List Row) (actions : List Action) : Type 0 where
-      pub inferred : List Action
-      pub nulls : List Action
-      pub of_inferred : AreOfInferred rows inferred
-      pub of_nulls : AreNulls rows nulls
-      pub are : actions ≡ inferred ++ nulls
+  -- those of the rows that are asked for, of files with this program and its least signature, of which these are the rows of the rules
+  abbrev pub AreOfRules : List (List ℕ) → List (List Token) → List SourceTree → Program → List Qualifier → List Row → List Action → Type 0
+  AreOfRules names tokens trees P s rows actions = AreOfAsked encoding files names tokens trees P s (filter is_asked_row rows) actions
 
 module _ (infer : Infer) (encoding : Encoding) (files : List SourceFile) (name : List ℕ) (range : Range) where
   -- those of a report: refused files get none

@@ -1,5 +1,5 @@
 -- The slots at which a row wants null: of a value that may be null, what takes it; of an overriding pair, what lacks the null that its partner has.
-use Rattle.std.specs.Prelude.{ℕ, Bool, true, false, cond, List, [], ◌∷◌, ◌++◌, flat_map, Option, Some, None, slice_index_or}
+use Rattle.std.specs.Prelude.{ℕ, Bool, true, false, cond, List, [], ◌∷◌, ◌++◌, flat_map, map, Option, Some, None, slice_index_or}
 use Rattle.jn_base.specs.declared.number.SlotNo.{SlotNo}
 use Rattle.jn_base.specs.declared.place.Row.{Row}
 use Rattle.jn_base.specs.declared.place.Span.{Span}
@@ -23,10 +23,10 @@ use Rattle.jn_notes.specs.declared.reads.Sought.{Sought}
 use Rattle.jn_notes.specs.Asked.{part_of, same_span, sought_of}
 use Rattle.jn_notes.specs.Spoken.{taker}
 
--- the number of a slot, where there is one
-abbrev pub number_of : Option SlotNo → Option ℕ
-number_of None = None
-number_of (Some slot) = Some slot.0
+-- the number of a slot, where there is one: what has none is of a primitive type
+abbrev pub number_of : Option SlotNo → List ℕ
+number_of None = []
+number_of (Some slot) = slot.0 ∷ []
 
 -- ---- of a value
 
@@ -45,12 +45,12 @@ module _ (P : Program) where
   slot_of_owner (OfResult m) = result_slot_of (method_at P m)
 
   -- of what takes a value, where something does
-  abbrev pub taker_wants : Option Owner → List (Option ℕ)
+  abbrev pub taker_wants : Option Owner → List ℕ
   taker_wants None = []
-  taker_wants (Some owner) = number_of (slot_of_owner owner) ∷ []
+  taker_wants (Some owner) = number_of (slot_of_owner owner)
 
   -- of a row of a value, where the value may be null
-  abbrev pub value_wants : List Qualifier → List Table → Option Sought → List (Option ℕ)
+  abbrev pub value_wants : List Qualifier → List Table → Option Sought → List ℕ
   value_wants s tables None = []
   value_wants s tables (Some q) = cond (is_null q.bit) (taker_wants (taker P s q tables)) []
 
@@ -58,57 +58,52 @@ module _ (P : Program) where
 
 module _ (s : List Qualifier) where
   -- the second slot, where the first has null and the second lacks it
-  abbrev pub slot_wants : Option SlotNo → Option SlotNo → List (Option ℕ)
-  slot_wants from to = cond (lacks_null (slot_qual s from) (slot_qual s to)) (number_of to ∷ []) []
+  abbrev pub slot_wants : Option SlotNo → Option SlotNo → List ℕ
+  slot_wants from to = cond (lacks_null (slot_qual s from) (slot_qual s to)) (number_of to) []
 
   -- slot by slot
-  abbrev pub slots_want : List (Option SlotNo) → List (Option SlotNo) → List (Option ℕ)
+  abbrev pub slots_want : List (Option SlotNo) → List (Option SlotNo) → List ℕ
   slots_want [] to = []
   slots_want (x ∷ from) [] = []
   slots_want (x ∷ from) (y ∷ to) = slot_wants x y ++ slots_want from to
 
   -- the overrider's parameters where the overridden method's may be null; the overridden method's result where the overrider's may be null
-  abbrev pub part_wants : Part → Method → Method → List (Option ℕ)
+  abbrev pub part_wants : Part → Method → Method → List ℕ
   part_wants OverParameters over lower = slots_want lower.param_slots over.param_slots
   part_wants OverReceiver over lower = []
   part_wants OverResult over lower = slot_wants over.result_slot lower.result_slot
 
   -- the same where the overridden method is there
-  abbrev pub lower_wants : Part → Method → Option Method → List (Option ℕ)
+  abbrev pub lower_wants : Part → Method → Option Method → List ℕ
   lower_wants part over None = []
   lower_wants part over (Some lower) = part_wants part over lower
 
   module _ (P : Program) (span : Span) (part : Part) where
     -- of a method with those that it overrides, where the row points to it
-    abbrev pub method_wants : Option Method → List ℕ → List (Option ℕ)
+    abbrev pub method_wants : Option Method → List ℕ → List ℕ
     method_wants None ks = []
     method_wants (Some over) ks = cond (same_span over.span span) (flat_map (λ k. lower_wants part over (method_at P k)) ks) []
 
     -- of one that is listed with those that it overrides
-    abbrev pub listed_wants : Overrider → List (Option ℕ)
+    abbrev pub listed_wants : Overrider → List ℕ
     listed_wants overrider = method_wants (method_at P overrider.method) overrider.under
 
     -- of each method that overrides
-    abbrev pub all_wants : List (Option ℕ)
+    abbrev pub all_wants : List ℕ
     all_wants = flat_map (λ m. method_wants (method_at P m) (under P m)) (overriders P)
 
   -- of a row of an overriding pair
-  abbrev pub pair_wants : Program → Span → Option Part → List (Option ℕ)
+  abbrev pub pair_wants : Program → Span → Option Part → List ℕ
   pair_wants P span None = []
   pair_wants P span (Some part) = all_wants P span part
 
 -- ---- of rows
 
 module _ (P : Program) (s : List Qualifier) (tables : List Table) where
-  -- where a row wants null; what has no slot is of a primitive type
-  abbrev pub row_wants : Row → List (Option ℕ)
+  -- where a row wants null
+  abbrev pub row_wants : Row → List ℕ
   row_wants row = value_wants P s tables (sought_of row.span row.code) ++ pair_wants s P row.span (part_of row.code)
 
-  module _ (asked : Row → Bool) where
-    -- of a row that is asked for
-    abbrev pub asked_wants : Row → List (Option ℕ)
-    asked_wants row = cond (asked row) (row_wants row) []
-
-    -- row by row
-    abbrev pub rows_want : List Row → List (Option ℕ)
-    rows_want rows = flat_map asked_wants rows
+  -- row by row
+  abbrev pub rows_want : List Row → List (List ℕ)
+  rows_want rows = map row_wants rows

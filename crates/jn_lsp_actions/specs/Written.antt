@@ -22,6 +22,7 @@ use Rattle.jn_note_words.specs.Worded.{owner_words}
 use Rattle.jn_lsp_text.specs.Positions.{position_at}
 use Rattle.jn_lsp_text.specs.declared.encoding.Encoding.{Encoding}
 use Rattle.jn_lsp_text.specs.declared.reply.Action.{Action}
+use Rattle.jn_lsp_text.specs.declared.reply.Diagnostic.{Diagnostic}
 use Rattle.jn_lsp_text.specs.declared.reply.Insertion.{Insertion}
 use Rattle.jn_lsp_actions.specs.declared.edits.Edit.{Edit}
 use Rattle.jn_lsp_actions.specs.declared.edits.Writing.{Writing}
@@ -76,14 +77,14 @@ title_front Null = codes "write `@Nullable` at "
 abbrev pub title_of : Program → List (List ℕ) → Writing → ℕ → List ℕ
 title_of P names writing slot = utf8_lossy (title_front writing ++ owner_words P names (owner_of P slot))
 
-abbrev pub action_of : List ℕ → Edit → Action
-action_of title edit = record { title = title; name = edit.name; insertions = edit.insertions }
+abbrev pub action_of : List ℕ → List Diagnostic → Edit → Action
+action_of title diagnostics edit = record { title = title; diagnostics = diagnostics; name = edit.name; insertions = edit.insertions }
 
 -- the action of an edit, where there is one
-abbrev pub actions_of : List ℕ → Option Edit → List Action
-actions_of title None = []
-actions_of title (Some edit) = action_of title edit ∷ []
+abbrev pub actions_of : List ℕ → List Diagnostic → Option Edit → List Action
+actions_of title diagnostics None = []
+actions_of title diagnostics (Some edit) = action_of title diagnostics edit ∷ []
 
--- what is given for a slot
-abbrev pub give : Encoding → List SourceFile → List (List ℕ) → List (List Token) → List SourceTree → Program → List Qualifier → Writing → ℕ → List Action
-give encoding files names tokens trees P s writing slot = actions_of (title_of P names writing slot) (edit_of_slot encoding files tokens trees P s writing slot)
+-- what is given for a slot, which mends these diagnostics
+abbrev pub give : Encoding → List SourceFile → List (List ℕ) → List (List Token) → List SourceTree → Program → List Qualifier → Writing → (ℕ → List Diagnostic) → ℕ → List Action
+give encoding files names tokens trees P s writing mends slot = actions_of (title_of P names writing slot) (mends slot) (edit_of_slot encoding files tokens trees P s writing slot)

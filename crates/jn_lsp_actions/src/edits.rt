@@ -6,9 +6,11 @@ ghost use Rattle.jn_annotate.specs.Puts.{insertion, insertions};
 ghost use Rattle.jn_lsp_text.specs.Positions.{position_at};
 ghost use Rattle.jn_note_words.specs.Owned.{AreOwners};
 ghost use Rattle.jn_lsp_actions.specs.declared.edits.Writing.TheVariants.{Inferred, Null};
+ghost use Rattle.jn_lsp_actions.specs.Mended.{mended};
 ghost use Rattle.jn_lsp_actions.specs.Written as spec;
 
 use crate::alone::alone_program;
+use crate::mending::{Mending, mended};
 use crate::nullable::{declares, null_puts};
 use jn_annotate::files::{fields_behind_types, file_puts, methods_behind_types};
 use jn_annotate::insert::Put;
@@ -343,6 +345,7 @@ impl<'a> Solved<'a> {
         &self,
         alloc: Global,
         writing: Writing,
+        mending: &Mending,
         slot: u32,
     ) -> Result<Option<Action>, OutOfMemory>
         requires fit { AllFit self.now.files.now }
@@ -350,12 +353,13 @@ impl<'a> Solved<'a> {
         ensures { IfOk result (λ action. option_to_list action
             ≡ spec.give self.now.encoding self.now.files.now self.now.names.now self.now.tokens.now
             (map file_view self.now.trees.now) self.now.program.now self.now.sig.now writing
-            slot) }
+            (mended mending.now.wants.now mending.now.diagnostics.now) slot) }
     {
         match self.edit_of_slot(alloc, writing, slot)? {
             None => Ok(None),
             Some(edit) => Ok(Some(Action {
                 title: self.title_of(alloc, writing, slot)?,
+                diagnostics: mended(alloc, mending, slot)?,
                 name: edit.name,
                 insertions: edit.insertions,
             })),

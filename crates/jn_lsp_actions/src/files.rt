@@ -12,12 +12,13 @@ ghost use Rattle.jn_system.specs.Rows.{AreBroken};
 ghost use Rattle.jn_tables_law.specs.Inferable.{IsInferable};
 ghost use Rattle.jn_trees.specs.View.{file_view};
 ghost use Rattle.jn_phases.specs.Phases.{IsTypedOr, TypedProgramOf};
-ghost use Rattle.jn_lsp_actions.specs.Offered.{AreActions, AreOfInferred, AreOfRules, AreWritten};
+ghost use Rattle.jn_lsp_actions.specs.Offered.{AreActions, AreOfAsked, AreOfInferred, AreOfRows, AreOfRules, AreWritten};
 
-use crate::choosing::{Asked, slots_of};
+use crate::choosing::{Asked, asked_rows, slots_of};
 use crate::edits::{Solved, Writing};
 use crate::giving::put_given;
-use crate::wants::wanted_of;
+use crate::mending::{Mending, diagnostics_of};
+use crate::wants::rows_want;
 use jn_annotate::shared::first_shared;
 use jn_base::{Infer, OutOfMemory, Row, Seq};
 use jn_contrib::{Overrider, overriders};
@@ -25,8 +26,9 @@ use jn_env::FlowTable;
 use jn_front::{SourceFile, SourceRead, lex_all};
 use jn_index::BaseTyped;
 use jn_index::indexed::IndexedProgram;
-use jn_lsp_text::{Action, Encoding, Range};
+use jn_lsp_text::{Action, Diagnostic, Encoding, Range};
 use jn_note_words::owners::find_owners;
+use jn_notes::notes_of_rows;
 use jn_notes::tables::least_tables;
 use jn_origins::LeastOrigins;
 use jn_origins::law::least_tables_are_sized;
@@ -45,14 +47,14 @@ use std::thread::Threads;
 pub(crate) const MOST_FILES: usize = 64;
 
 /// The actions of what is inferred, of rows of files none of whose fields shares its type with one of another qualifier.
-fn written_at(
+fn written_for(
     alloc: Global,
     solved: &Solved,
     indexed: &IndexedProgram,
     tables: &[FlowTable],
     overriders: &[Overrider],
-    asked: &Asked,
     rows: &[Row],
+    diagnostics: &[Diagnostic],
 ) -> Result<Seq<Action>, OutOfMemory>
     requires fit { AllFit solved.now.files.now }
     requires inferable { IsInferable solved.now.program.now }
@@ -62,15 +64,19 @@ fn written_at(
     requires solved { AreLeastTables solved.now.program.now solved.now.sig.now tables.now }
     requires overriders { AreOverriders solved.now.program.now overriders.now }
     ensures { IfOk result (λ actions.
-        AreWritten solved.now.encoding solved.now.files.now asked.now.name.now asked.now.range solved.now.names.now
-        solved.now.tokens.now (map file_view solved.now.trees.now) solved.now.program.now
-        solved.now.sig.now rows.now actions) }
+        AreWritten solved.now.encoding solved.now.files.now solved.now.names.now solved.now.tokens.now
+        (map file_view solved.now.trees.now) solved.now.program.now solved.now.sig.now rows.now
+        diagnostics.now actions) }
 {
     least_tables_are_sized();
     let origins = LeastOrigins::new(alloc, indexed, solved.sig, tables)?;
-    let slots = slots_of(alloc, solved, tables, overriders, &origins, asked, rows)?;
+    let wants = slots_of(alloc, solved, tables, overriders, &origins, rows)?;
+    let mending = Mending {
+        wants: &wants,
+        diagnostics,
+    };
     let mut actions = Seq::new(alloc);
-    put_given(&mut actions, alloc, solved, Writing::Inferred, &slots)?;
+    put_given(&mut actions, alloc, solved, Writing::Inferred, &mending)?;
     Ok(actions)
 }
 
@@ -82,8 +88,8 @@ fn unless_shared(
     indexed: &IndexedProgram,
     tables: &[FlowTable],
     overriders: &[Overrider],
-    asked: &Asked,
     rows: &[Row],
+    diagnostics: &[Diagnostic],
 ) -> Result<Seq<Action>, OutOfMemory>
     requires fit { AllFit solved.now.files.now }
     requires inferable { IsInferable solved.now.program.now }
@@ -93,13 +99,21 @@ fn unless_shared(
     requires solved { AreLeastTables solved.now.program.now solved.now.sig.now tables.now }
     requires overriders { AreOverriders solved.now.program.now overriders.now }
     ensures { IfOk result (λ actions.
-        AreOfInferred solved.now.encoding solved.now.files.now asked.now.name.now asked.now.range
-        solved.now.names.now solved.now.tokens.now (map file_view solved.now.trees.now)
-        solved.now.program.now solved.now.sig.now rows.now actions) }
+        AreOfInferred solved.now.encoding solved.now.files.now solved.now.names.now solved.now.tokens.now
+        (map file_view solved.now.trees.now) solved.now.program.now solved.now.sig.now rows.now
+        diagnostics.now actions) }
 {
     match first_shared(alloc, solved.program, solved.sig, solved.trees)? {
         Some(_) => Ok(Seq::new(alloc)),
-        None => written_at(alloc, solved, indexed, tables, overriders, asked, rows),
+        None => written_for(
+            alloc,
+            solved,
+            indexed,
+            tables,
+            overriders,
+            rows,
+            diagnostics,
+        ),
     }
 }
 
@@ -111,27 +125,97 @@ fn put_nulls(
     solved: &Solved,
     tables: &[FlowTable],
     overriders: &[Overrider],
-    asked: &Asked,
     rows: &[Row],
+    diagnostics: &[Diagnostic],
 ) -> Result<(), OutOfMemory>
     requires fit { AllFit solved.now.files.now }
     requires inferable { IsInferable solved.now.program.now }
     requires owners { AreOwners solved.now.program.now solved.now.owners.now }
     requires solved { AreLeastTables solved.now.program.now solved.now.sig.now tables.now }
     requires overriders { AreOverriders solved.now.program.now overriders.now }
-    requires inferred { AreOfInferred solved.now.encoding solved.now.files.now asked.now.name.now asked.now.range
-        solved.now.names.now solved.now.tokens.now (map file_view solved.now.trees.now)
-        solved.now.program.now solved.now.sig.now rows.now actions.old }
-    ensures { OnOk result
-        (AreOfRules solved.now.encoding solved.now.files.now asked.now.name.now asked.now.range solved.now.names.now
+    requires inferred { AreOfInferred solved.now.encoding solved.now.files.now solved.now.names.now
         solved.now.tokens.now (map file_view solved.now.trees.now) solved.now.program.now
-        solved.now.sig.now rows.now actions.new) }
+        solved.now.sig.now rows.now diagnostics.now actions.old }
+    ensures { OnOk result
+        (AreOfRows solved.now.encoding solved.now.files.now solved.now.names.now solved.now.tokens.now
+        (map file_view solved.now.trees.now) solved.now.program.now solved.now.sig.now rows.now
+        diagnostics.now actions.new) }
 {
-    let slots = wanted_of(alloc, solved, tables, overriders, asked, rows)?;
-    put_given(actions, alloc, solved, Writing::Null, &slots)
+    let wants = rows_want(alloc, solved, tables, overriders, rows)?;
+    let mending = Mending {
+        wants: &wants,
+        diagnostics,
+    };
+    put_given(actions, alloc, solved, Writing::Null, &mending)
+}
+
+/// The actions of rows of the rules with these diagnostics.
+fn of_rows(
+    alloc: Global,
+    solved: &Solved,
+    indexed: &IndexedProgram,
+    rows: &[Row],
+    diagnostics: &[Diagnostic],
+) -> Result<Seq<Action>, OutOfMemory>
+    requires fit { AllFit solved.now.files.now }
+    requires inferable { IsInferable solved.now.program.now }
+    requires least { IsLeastSignature solved.now.program.now solved.now.sig.now }
+    requires owners { AreOwners solved.now.program.now solved.now.owners.now }
+    requires indexed { indexed.now ≡ solved.now.program.now }
+    ensures { IfOk result (λ actions.
+        AreOfRows solved.now.encoding solved.now.files.now solved.now.names.now solved.now.tokens.now
+        (map file_view solved.now.trees.now) solved.now.program.now solved.now.sig.now rows.now
+        diagnostics.now actions) }
+{
+    let tables = least_tables(alloc, solved.program, solved.sig)?;
+    let overriders = overriders(alloc, indexed)?;
+    let mut actions = unless_shared(
+        alloc,
+        solved,
+        indexed,
+        &tables,
+        &overriders,
+        rows,
+        diagnostics,
+    )?;
+    put_nulls(
+        &mut actions,
+        alloc,
+        solved,
+        &tables,
+        &overriders,
+        rows,
+        diagnostics,
+    )?;
+    Ok(actions)
 }
 
 /// The actions of rows of the rules.
+#[tactic(auto, using(crate::proofs::Offering::of_noted))]
+fn of_asked(
+    alloc: Global,
+    solved: &Solved,
+    indexed: &IndexedProgram,
+    rows: &[Row],
+) -> Result<Seq<Action>, OutOfMemory>
+    requires fit { AllFit solved.now.files.now }
+    requires inferable { IsInferable solved.now.program.now }
+    requires least { IsLeastSignature solved.now.program.now solved.now.sig.now }
+    requires owners { AreOwners solved.now.program.now solved.now.owners.now }
+    requires indexed { indexed.now ≡ solved.now.program.now }
+    ensures { IfOk result (λ actions.
+        AreOfAsked solved.now.encoding solved.now.files.now solved.now.names.now solved.now.tokens.now
+        (map file_view solved.now.trees.now) solved.now.program.now solved.now.sig.now rows.now
+        actions) }
+{
+    let notes = notes_of_rows(alloc, indexed, solved.names, solved.sig, rows)?;
+    let diagnostics = diagnostics_of(alloc, solved.encoding, solved.files, rows, &notes)?;
+    let actions = of_rows(alloc, solved, indexed, rows, diagnostics.as_slice())?;
+    Ok(actions)
+}
+
+/// The actions of the rows of the rules that are asked for.
+#[tactic(auto, using(crate::proofs::Offering::of_those))]
 fn of_rules(
     alloc: Global,
     solved: &Solved,
@@ -149,18 +233,8 @@ fn of_rules(
         solved.now.tokens.now (map file_view solved.now.trees.now) solved.now.program.now
         solved.now.sig.now rows.now actions) }
 {
-    let tables = least_tables(alloc, solved.program, solved.sig)?;
-    let overriders = overriders(alloc, indexed)?;
-    let mut actions = unless_shared(alloc, solved, indexed, &tables, &overriders, asked, rows)?;
-    put_nulls(
-        &mut actions,
-        alloc,
-        solved,
-        &tables,
-        &overriders,
-        asked,
-        rows,
-    )?;
+    let rows = asked_rows(alloc, solved.encoding, solved.files, asked, rows)?;
+    let actions = of_asked(alloc, solved, indexed, &rows)?;
     Ok(actions)
 }
 
@@ -279,7 +353,8 @@ fn finish<R: Threads + Sync, G: Gate + Sync>(
 /// first slot of the row's first chain of causes that is inferred and whose annotation can be written alone gives one edit, once for all rows
 /// that come to that slot; edits stand in the order of the report, each at the last of its rows. An edit puts the words that annotating the
 /// files puts for that slot ([`jn_annotate::annotate`]), with lines that import them where the file doesn't, into the file that declares the
-/// slot, which may be another one. A worker enters the gate when it takes a file, infers, or checks a body.
+/// slot, which may be another one. Each edit tells the diagnostics of the rows there for which it is offered, with their notes
+/// ([`jn_notes::notes_of_rows`]). A worker enters the gate when it takes a file, infers, or checks a body.
 ///
 /// After those stand the edits that write `@Nullable` where a row wants null, once for each slot, in the order of the report: at the field, the parameter
 /// or the result that takes a value which may be null, at the overrider's parameter where the overridden method's may be null, and at the

@@ -1,63 +1,39 @@
 //! The actions of slots, each once.
-ghost use Rattle.std.specs.Prelude.{◌≡◌, ◌++◌, ◌∷◌, [], map, option_to_list, IfOk, OnOk};
+ghost use Rattle.std.specs.Prelude.{◌≡◌, ◌++◌, cond, [], flat_map, map, option_to_list, IfOk, OnOk};
 ghost use Rattle.jn_note_words.specs.Owned.{AreOwners};
 ghost use Rattle.jn_recheck.specs.Files.{AllFit};
 ghost use Rattle.jn_trees.specs.View.{file_view};
+ghost use Rattle.jn_lsp_actions.specs.Mended as mends;
 ghost use Rattle.jn_lsp_actions.specs.Offered as spec;
 ghost use Rattle.jn_lsp_actions.specs.Written.{give};
 
 use crate::edits::{Solved, Writing};
+use crate::mending::{Mending, comes};
 use jn_base::{OutOfMemory, Seq};
 use jn_lsp_text::Action;
 use std::alloc::{AllocError, Global};
-
-fn is_slot(slot: u32, other: Option<u32>) -> bool
-    ensures { result ≡ spec.is_slot slot other }
-{
-    match other {
-        None => false,
-        Some(other) => other == slot,
-    }
-}
-
-/// Whether the slot is among these.
-fn comes(slot: u32, slots: &[Option<u32>]) -> bool
-    ensures { result ≡ spec.comes slot slots.now }
-{
-    let mut rest = slots;
-    while let [other, more @ ..] = rest {
-        if is_slot(slot, *other) {
-            return true;
-        }
-        rest = more;
-    }
-    false
-}
 
 /// The action of the slot, unless it comes again.
 fn given_here(
     alloc: Global,
     solved: &Solved,
     writing: Writing,
-    slot: Option<u32>,
-    slots: &[Option<u32>],
+    mending: &Mending,
+    slot: u32,
+    slots: &[u32],
 ) -> Result<Option<Action>, OutOfMemory>
     requires fit { AllFit solved.now.files.now }
     requires owners { AreOwners solved.now.program.now solved.now.owners.now }
     ensures { IfOk result (λ action. option_to_list action
-        ≡ spec.given_here (give solved.now.encoding solved.now.files.now solved.now.names.now solved.now.tokens.now
-        (map file_view solved.now.trees.now) solved.now.program.now solved.now.sig.now writing)
-        slot slots.now) }
+        ≡ cond (mends.comes slot slots.now) []
+        (give solved.now.encoding solved.now.files.now solved.now.names.now solved.now.tokens.now
+        (map file_view solved.now.trees.now) solved.now.program.now solved.now.sig.now writing
+        (mends.mended mending.now.wants.now mending.now.diagnostics.now) slot)) }
 {
-    match slot {
-        None => Ok(None),
-        Some(slot) => {
-            if comes(slot, slots) {
-                Ok(None)
-            } else {
-                solved.action_of_slot(alloc, writing, slot)
-            }
-        }
+    if comes(slot, slots) {
+        Ok(None)
+    } else {
+        solved.action_of_slot(alloc, writing, mending, slot)
     }
 }
 
@@ -71,6 +47,45 @@ fn push_some(actions: &mut Seq<Action>, action: Option<Action>) -> Result<(), Al
 }
 
 /// Puts the actions of slots after the others, each where its slot comes last.
+fn put_each(
+    actions: &mut Seq<Action>,
+    alloc: Global,
+    solved: &Solved,
+    writing: Writing,
+    mending: &Mending,
+    slots: &[u32],
+) -> Result<(), OutOfMemory>
+    requires fit { AllFit solved.now.files.now }
+    requires owners { AreOwners solved.now.program.now solved.now.owners.now }
+    ensures { OnOk result (actions.new
+        ≡ actions.old
+        ++ spec.given (give solved.now.encoding solved.now.files.now solved.now.names.now solved.now.tokens.now
+        (map file_view solved.now.trees.now) solved.now.program.now solved.now.sig.now writing
+        (mends.mended mending.now.wants.now mending.now.diagnostics.now)) slots.now) }
+{
+    let mut rest = slots;
+    while let [slot, more @ ..] = rest {
+        push_some(
+            actions,
+            given_here(alloc, solved, writing, mending, *slot, more)?,
+        )?;
+        rest = more;
+    }
+    Ok(())
+}
+
+/// The slots of all rows, in their order.
+fn all_slots(alloc: Global, wants: &[Seq<u32>]) -> Result<Vec<u32>, AllocError>
+    ensures { IfOk result (λ slots. slots.items ≡ flat_map (λ slots. slots) wants.now) }
+{
+    let mut all = Vec::new(alloc);
+    for slots in wants {
+        all.extend_from_slice(slots.as_slice())?;
+    }
+    Ok(all)
+}
+
+/// Puts the actions of the rows' slots after the others, once for a slot, each where its slot comes last.
 ///
 /// # Errors
 /// No memory was found.
@@ -79,20 +94,16 @@ pub fn put_given(
     alloc: Global,
     solved: &Solved,
     writing: Writing,
-    slots: &[Option<u32>],
+    mending: &Mending,
 ) -> Result<(), OutOfMemory>
     requires fit { AllFit solved.now.files.now }
     requires owners { AreOwners solved.now.program.now solved.now.owners.now }
     ensures { OnOk result (actions.new
         ≡ actions.old
-        ++ spec.given (give solved.now.encoding solved.now.files.now solved.now.names.now solved.now.tokens.now
-        (map file_view solved.now.trees.now) solved.now.program.now solved.now.sig.now writing)
-        slots.now) }
+        ++ spec.given_for solved.now.encoding solved.now.files.now solved.now.names.now solved.now.tokens.now
+        (map file_view solved.now.trees.now) solved.now.program.now solved.now.sig.now writing
+        mending.now.wants.now mending.now.diagnostics.now) }
 {
-    let mut rest = slots;
-    while let [slot, more @ ..] = rest {
-        push_some(actions, given_here(alloc, solved, writing, *slot, more)?)?;
-        rest = more;
-    }
-    Ok(())
+    let slots = all_slots(alloc, mending.wants)?;
+    put_each(actions, alloc, solved, writing, mending, &slots)
 }

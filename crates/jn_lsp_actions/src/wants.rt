@@ -2,17 +2,13 @@
 ghost use Rattle.std.specs.Prelude.{◌≡◌, ◌++◌, flat_map, IfOk, OnOk, None, slice_index_or};
 ghost use Rattle.jn_contrib.specs.Entries.{AreOverriders};
 ghost use Rattle.jn_points.specs.Lookup.{method_at, slots_of};
-ghost use Rattle.jn_recheck.specs.Files.{AllFit};
 ghost use Rattle.jn_tables_law.specs.Inferable.{IsInferable};
 ghost use Rattle.jn_transfer.specs.Rules.{lacks_null};
-ghost use Rattle.jn_lsp_actions.specs.Offered.{is_asked_row};
 ghost use Rattle.jn_lsp_actions.specs.Own as spec;
 
-use crate::asking::is_asked;
-use crate::choosing::Asked;
 use crate::edits::Solved;
 use jn_base::lists::put;
-use jn_base::{FieldNo, MethodNo, OutOfMemory, Row, SlotNo, Span};
+use jn_base::{FieldNo, MethodNo, OutOfMemory, Row, Seq, SlotNo, Span};
 use jn_contrib::Overrider;
 use jn_env::FlowTable;
 use jn_note_words::owners::Owner;
@@ -27,12 +23,13 @@ use jn_sigs::Sig;
 use jn_transfer::lookup::{field_slot, result_slot, slot_qual};
 use std::alloc::{AllocError, Global};
 
-fn number_of(slot: Option<SlotNo>) -> Option<u32>
-    ensures { result ≡ spec.number_of slot }
+/// Puts the number of the slot after the others, where there is one.
+fn put_number(slots: &mut Vec<u32>, slot: Option<SlotNo>) -> Result<(), AllocError>
+    ensures { OnOk result (slots.new.items ≡ slots.old.items ++ spec.number_of slot) }
 {
     match slot {
-        None => None,
-        Some(slot) => Some(slot.0),
+        None => Ok(()),
+        Some(slot) => put(slots, slot.0),
     }
 }
 
@@ -78,7 +75,7 @@ fn slot_of_owner(program: &Program, owner: Owner) -> Option<SlotNo>
 }
 
 fn put_taker(
-    slots: &mut Vec<Option<u32>>,
+    slots: &mut Vec<u32>,
     program: &Program,
     owner: Option<Owner>,
 ) -> Result<(), AllocError>
@@ -86,13 +83,13 @@ fn put_taker(
 {
     match owner {
         None => Ok(()),
-        Some(owner) => put(slots, number_of(slot_of_owner(program, owner))),
+        Some(owner) => put_number(slots, slot_of_owner(program, owner)),
     }
 }
 
 /// Puts the slot of what takes a value, where the value may be null.
 fn put_value(
-    slots: &mut Vec<Option<u32>>,
+    slots: &mut Vec<u32>,
     program: &Program,
     sig: &Sig,
     tables: &[FlowTable],
@@ -122,7 +119,7 @@ fn lacks_null(from: Qual, to: Qual) -> bool
 
 /// Puts the second slot, where the first has null and the second lacks it.
 fn put_slot(
-    slots: &mut Vec<Option<u32>>,
+    slots: &mut Vec<u32>,
     sig: &Sig,
     from: Option<SlotNo>,
     to: Option<SlotNo>,
@@ -130,7 +127,7 @@ fn put_slot(
     ensures { OnOk result (slots.new.items ≡ slots.old.items ++ spec.slot_wants sig.now from to) }
 {
     if lacks_null(slot_qual(sig, from), slot_qual(sig, to)) {
-        put(slots, number_of(to))
+        put_number(slots, to)
     } else {
         Ok(())
     }
@@ -139,7 +136,7 @@ fn put_slot(
 /// Slot by slot.
 #[tactic(auto, using(crate::proofs::Wanting::next_slots))]
 fn put_slots(
-    slots: &mut Vec<Option<u32>>,
+    slots: &mut Vec<u32>,
     sig: &Sig,
     from: &[Option<SlotNo>],
     to: &[Option<SlotNo>],
@@ -164,7 +161,7 @@ fn put_slots(
 
 /// Of a method and one that it overrides.
 fn put_part(
-    slots: &mut Vec<Option<u32>>,
+    slots: &mut Vec<u32>,
     sig: &Sig,
     part: Part,
     over: &Method,
@@ -187,7 +184,7 @@ fn put_part(
 
 /// The same of a method that is overridden, where there is such.
 fn put_lower(
-    slots: &mut Vec<Option<u32>>,
+    slots: &mut Vec<u32>,
     sig: &Sig,
     program: &Program,
     part: Part,
@@ -204,7 +201,7 @@ fn put_lower(
 }
 
 fn put_lowers(
-    slots: &mut Vec<Option<u32>>,
+    slots: &mut Vec<u32>,
     sig: &Sig,
     program: &Program,
     part: Part,
@@ -224,7 +221,7 @@ fn put_lowers(
 
 /// Of a method with those that it overrides, where it stands at the span.
 fn put_method(
-    slots: &mut Vec<Option<u32>>,
+    slots: &mut Vec<u32>,
     sig: &Sig,
     program: &Program,
     span: Span,
@@ -249,7 +246,7 @@ fn put_method(
 }
 
 fn put_overriders(
-    slots: &mut Vec<Option<u32>>,
+    slots: &mut Vec<u32>,
     sig: &Sig,
     program: &Program,
     span: Span,
@@ -268,7 +265,7 @@ fn put_overriders(
 
 /// Of a row of an overriding pair.
 fn put_pair(
-    slots: &mut Vec<Option<u32>>,
+    slots: &mut Vec<u32>,
     sig: &Sig,
     program: &Program,
     overriders: &[Overrider],
@@ -291,7 +288,7 @@ fn put_pair(
 /// Where a row wants null.
 #[tactic(auto, using(crate::proofs::Wanting::both_want))]
 fn put_row(
-    slots: &mut Vec<Option<u32>>,
+    slots: &mut Vec<u32>,
     program: &Program,
     sig: &Sig,
     tables: &[FlowTable],
@@ -307,58 +304,51 @@ fn put_row(
     put_pair(slots, sig, program, overriders, row.span, part_of(row.code))
 }
 
-/// The same of a row that is asked for.
-fn put_asked(
-    slots: &mut Vec<Option<u32>>,
-    solved: &Solved,
-    tables: &[FlowTable],
-    overriders: &[Overrider],
-    asked: &Asked,
-    row: Row,
-) -> Result<(), AllocError>
-    requires fit { AllFit solved.now.files.now }
-    requires inferable { IsInferable solved.now.program.now }
-    requires overriders { AreOverriders solved.now.program.now overriders.now }
-    ensures { OnOk result (slots.new.items
-        ≡ slots.old.items
-        ++ spec.asked_wants solved.now.program.now solved.now.sig.now tables.now
-        (is_asked_row solved.now.encoding solved.now.files.now asked.now.name.now asked.now.range) row) }
-{
-    if is_asked(
-        solved.encoding,
-        solved.files,
-        asked.name,
-        asked.range,
-        row.span,
-    ) {
-        put_row(slots, solved.program, solved.sig, tables, overriders, row)
-    } else {
-        Ok(())
-    }
-}
-
-/// The slots at which rows that are asked for want null.
-///
-/// # Errors
-/// No memory was found.
-pub fn wanted_of(
+/// The slots at which a row wants null.
+fn wants_of(
     alloc: Global,
     solved: &Solved,
     tables: &[FlowTable],
     overriders: &[Overrider],
-    asked: &Asked,
-    rows: &[Row],
-) -> Result<Vec<Option<u32>>, OutOfMemory>
-    requires fit { AllFit solved.now.files.now }
+    row: Row,
+) -> Result<Seq<u32>, OutOfMemory>
     requires inferable { IsInferable solved.now.program.now }
     requires overriders { AreOverriders solved.now.program.now overriders.now }
-    ensures { IfOk result (λ slots. slots.items
-        ≡ spec.rows_want solved.now.program.now solved.now.sig.now tables.now
-        (is_asked_row solved.now.encoding solved.now.files.now asked.now.name.now asked.now.range) rows.now) }
+    ensures { IfOk result (λ slots. slots
+        ≡ spec.row_wants solved.now.program.now solved.now.sig.now tables.now row) }
 {
     let mut slots = Vec::new(alloc);
+    put_row(
+        &mut slots,
+        solved.program,
+        solved.sig,
+        tables,
+        overriders,
+        row,
+    )?;
+    Ok(Seq::of_vec(slots))
+}
+
+/// The slots at which each row wants null.
+///
+/// # Errors
+/// No memory was found.
+pub fn rows_want(
+    alloc: Global,
+    solved: &Solved,
+    tables: &[FlowTable],
+    overriders: &[Overrider],
+    rows: &[Row],
+) -> Result<Vec<Seq<u32>>, OutOfMemory>
+    requires inferable { IsInferable solved.now.program.now }
+    requires overriders { AreOverriders solved.now.program.now overriders.now }
+    ensures { IfOk result (λ wants. wants.items
+        ≡ spec.rows_want solved.now.program.now solved.now.sig.now tables.now rows.now) }
+{
+    let mut wants = Vec::new(alloc);
     for row in rows {
-        put_asked(&mut slots, solved, tables, overriders, asked, *row)?;
+        let slots = wants_of(alloc, solved, tables, overriders, *row)?;
+        put(&mut wants, slots)?;
     }
-    Ok(slots)
+    Ok(wants)
 }

@@ -105,11 +105,13 @@ insertion_data i =
 unfoldable pub edit_data : List ℕ → List Insertion → Data
 edit_data name insertions = object (one (codes "changes") (object (one (uri_of name) (list_data insertion_data insertions))))
 
-unfoldable pub action_data : Action → Data
-action_data a =
-    object (member (codes "edit") (edit_data a.name a.insertions)
+-- with the diagnostics that it mends
+unfoldable pub action_data : Option (List ℕ) → Action → Data
+action_data address a =
+    object (member (codes "diagnostics") (list_data (diagnostic_data address) a.diagnostics)
+    (member (codes "edit") (edit_data a.name a.insertions)
     (member (codes "kind") (string (codes "quickfix"))
-    (one (codes "title") (string a.title))))
+    (one (codes "title") (string a.title)))))
 
 -- ---- places that tell why
 
@@ -288,6 +290,6 @@ data_of address (reply.Refusal i f) = refusal_data i f
 data_of address (reply.Publish name version diagnostics) = notice_data (codes "textDocument/publishDiagnostics") (published_data address name version diagnostics)
 data_of address (reply.Show words) = notice_data (codes "window/showMessage") (shown_data words)
 data_of address reply.Watch = request_data (id.Text (codes "watch")) (codes "client/registerCapability") registrations_data
-data_of address (reply.Actions i actions) = answer_data i (list_data action_data actions)
+data_of address (reply.Actions i actions) = answer_data i (list_data (action_data address) actions)
 data_of address (reply.Hints i hints) = answer_data i (list_data hint_data hints)
 data_of address (reply.Hovered i markup hover) = answer_data i (hover_or_null markup hover)

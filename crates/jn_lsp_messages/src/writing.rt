@@ -59,7 +59,7 @@ fn reply_value(alloc: Global, address: &Option<Text>, reply: &Reply) -> Result<V
         Reply::Show { words } => Ok(show(alloc, words.as_str())?),
         Reply::Watch => Ok(watch_value(alloc)?),
         Reply::Actions { id, actions } => {
-            let actions = actions_value(alloc, actions.as_slice())?;
+            let actions = actions_value(alloc, address, actions.as_slice())?;
             Ok(answer(alloc, id, actions)?)
         }
         Reply::Hints { id, hints } => {

@@ -46,10 +46,12 @@ pub struct Related {
     pub words: Text,
 }
 
-/// An edit of one file that a client may make: a title, and insertions into the text as it stands.
+/// An edit of one file that a client may make: a title, what it mends, and insertions into the text as it stands.
 #[derive(Drop)]
 pub struct Action {
     pub title: Text,
+    /// The diagnostics of the rows for which it is offered (CodeAction, `diagnostics`).
+    pub diagnostics: Seq<Diagnostic>,
     pub name: Text,
     pub insertions: Seq<Insertion>,
 }

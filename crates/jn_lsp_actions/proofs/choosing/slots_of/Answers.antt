@@ -1,6 +1,5 @@
 use Rattle.std.proofs.Common.{◌<◌, length, map, arith}
 use Rattle.jn_trees.specs.View.{file_view}
-use Rattle.jn_lsp_actions.specs.Offered.{is_asked_row}
 use Rattle.jn_lsp_actions.specs.Written.{is_written}
 use Rattle.jn_lsp_actions.proofs.RowByRow.{row_more}
 use Rattle.jn_lsp_actions.proofs.choosing.slots_of.Goals as goal
@@ -9,6 +8,5 @@ pub loop-row-preserved : goal.loop-row-preserved
 loop-row-preserved c =
     let lt : c.loop-row.row-index < length c.args.rows.now = omega (arith, c.loop-row-test.true) in
     let solved = c.args.solved.now in
-    let asked = is_asked_row solved.encoding solved.files.now c.args.asked.now.name.now c.args.asked.now.range in
     let test = is_written solved.encoding solved.files.now solved.tokens.now (map file_view solved.trees.now) solved.program.now solved.sig.now in
-    row_more solved.program.now solved.sig.now c.args.tables.now test asked c.args.rows.now c.loop-row.row-index _ c.in_ok-slot.slot c.loop-row.slots.items c.put.new.items.items lt c.in_ok-slot.ensures c.in_ok-put.ensures c.loop-row.invariant
+    row_more solved.program.now solved.sig.now c.args.tables.now test c.args.rows.now c.loop-row.row-index _ c.in_ok-slots.slots c.loop-row.wants.items c.put.new.items.items lt c.in_ok-slots.ensures c.in_ok-put.ensures c.loop-row.invariant

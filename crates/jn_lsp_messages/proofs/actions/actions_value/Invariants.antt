@@ -4,4 +4,4 @@ use Rattle.jn_lsp_messages.specs.Outgoing.{action_data}
 use Rattle.jn_lsp_messages.proofs.actions.actions_value.Given as goal
 
 abbrev pub invariant-loop-action : goal.invariant-loop-action
-invariant-loop-action l = map view l.items.items ≡ map action_data (take l.action-index l.actions)
+invariant-loop-action l = map view l.items.items ≡ map (action_data l.address) (take l.action-index l.actions)

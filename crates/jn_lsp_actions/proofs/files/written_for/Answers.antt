@@ -1,7 +1,7 @@
 use Rattle.std.proofs.Common.{sym, subst}
 use Rattle.jn_points.specs.declared.program.Program.{Program}
 use Rattle.jn_origins.specs.Standing.{AreSized}
-use Rattle.jn_lsp_actions.proofs.files.written_at.Goals as goal
+use Rattle.jn_lsp_actions.proofs.files.written_for.Goals as goal
 
 pub new-requires-clause-sized : goal.new-requires-clause-sized
 new-requires-clause-sized c =

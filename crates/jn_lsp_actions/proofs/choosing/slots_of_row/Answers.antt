@@ -5,10 +5,10 @@ use Rattle.jn_env.specs.Order.{Table}
 use Rattle.jn_reasons_law.specs.Items.{Stands}
 use Rattle.jn_reasons_law.specs.Chains.{HasChain}
 use Rattle.jn_notes.proofs.Standing.{row_stands}
-use Rattle.jn_lsp_actions.proofs.choosing.slot_of_asked.Goals as goal
+use Rattle.jn_lsp_actions.proofs.choosing.slots_of_row.Goals as goal
 
-pub slot_from-requires-clause-chain : goal.slot_from-requires-clause-chain
-slot_from-requires-clause-chain c =
+pub slots_from-requires-clause-chain : goal.slots_from-requires-clause-chain
+slots_from-requires-clause-chain c =
     let P = c.args.solved.now.program.now in
     let s = c.args.solved.now.sig.now in
     let ts = c.args.tables.now in

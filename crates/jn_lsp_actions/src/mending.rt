@@ -1,0 +1,105 @@
+//! The diagnostics that actions mend.
+ghost use Rattle.std.specs.Prelude.{◌≡◌, ◌++◌, ◌∷◌, [], cond, IfOk, OnOk};
+ghost use Rattle.jn_recheck.specs.Files.{AllFit};
+ghost use Rattle.jn_lsp_actions.specs.Mended as spec;
+
+use jn_base::{OutOfMemory, Row, Seq};
+use jn_front::SourceFile;
+use jn_lsp_solved::related::diagnostic_of;
+use jn_lsp_text::{Diagnostic, Encoding};
+use jn_note_words::Notes;
+use std::alloc::{AllocError, Global};
+
+/// Rows that are asked for, by their diagnostics, and the slots at which something is offered for each.
+#[derive(Clone, Copy)]
+pub struct Mending<'a> {
+    pub wants: &'a [Seq<u32>],
+    pub diagnostics: &'a [Diagnostic],
+}
+
+/// The diagnostics of rows, each with its notes.
+///
+/// # Errors
+/// No memory was found.
+#[tactic(auto, using(crate::proofs::Listing::next_diagnostic))]
+pub fn diagnostics_of(
+    alloc: Global,
+    encoding: Encoding,
+    files: &[SourceFile],
+    rows: &[Row],
+    notes: &[Notes],
+) -> Result<Seq<Diagnostic>, OutOfMemory>
+    requires fit { AllFit files.now }
+    ensures { IfOk result
+        (λ made. made ≡ spec.diagnostics_of encoding files.now rows.now notes.now) }
+{
+    let mut made = Seq::new(alloc);
+    let mut rest = rows;
+    let mut left = notes;
+    while let [row, more @ ..] = rest {
+        match left {
+            [] => return Ok(made),
+            [first, others @ ..] => {
+                made.push(diagnostic_of(alloc, encoding, files, row, first.shown.as_slice())?)?;
+                rest = more;
+                left = others;
+            }
+        }
+    }
+    Ok(made)
+}
+
+/// Whether the slot is among these.
+pub fn comes(slot: u32, slots: &[u32]) -> bool
+    ensures { result ≡ spec.comes slot slots.now }
+{
+    let mut rest = slots;
+    while let [other, more @ ..] = rest {
+        if *other == slot {
+            return true;
+        }
+        rest = more;
+    }
+    false
+}
+
+/// Puts a diagnostic after the others, where its row has the slot.
+fn push_if(
+    made: &mut Seq<Diagnostic>,
+    alloc: Global,
+    has: bool,
+    one: &Diagnostic,
+) -> Result<(), AllocError>
+    ensures { OnOk result (made.new ≡ made.old ++ cond has (one.now ∷ []) []) }
+{
+    if has {
+        made.push(one.copy(alloc)?)
+    } else {
+        Ok(())
+    }
+}
+
+/// The diagnostics of the rows among whose slots this one is.
+///
+/// # Errors
+/// No memory was found.
+#[tactic(auto, using(crate::proofs::Listing::next_part))]
+pub fn mended(alloc: Global, mending: &Mending, slot: u32) -> Result<Seq<Diagnostic>, AllocError>
+    ensures { IfOk result (λ made. made
+        ≡ spec.mended mending.now.wants.now mending.now.diagnostics.now slot) }
+{
+    let mut made = Seq::new(alloc);
+    let mut rest = mending.wants;
+    let mut left = mending.diagnostics;
+    while let [slots, more @ ..] = rest {
+        match left {
+            [] => return Ok(made),
+            [first, others @ ..] => {
+                push_if(&mut made, alloc, comes(slot, slots.as_slice()), first)?;
+                rest = more;
+                left = others;
+            }
+        }
+    }
+    Ok(made)
+}
