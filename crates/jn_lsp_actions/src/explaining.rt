@@ -1,5 +1,5 @@
 //! Hints with the places that tell why.
-ghost use Rattle.std.specs.Prelude.{◌≡◌, IfOk, map};
+ghost use Rattle.std.specs.Prelude.{◌≡◌, IfOk};
 ghost use Rattle.jn_inference_law.specs.Solution.{IsLeastSignature};
 ghost use Rattle.jn_note_words.specs.Owned.{AreOwners};
 ghost use Rattle.jn_notes.specs.Noted.{AreLeastTables};

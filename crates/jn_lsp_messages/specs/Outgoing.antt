@@ -140,13 +140,16 @@ tooltip [] = no_members
 tooltip (r ∷ more) = one (codes "tooltip") (string (tooltip_words r more))
 
 -- kind 1 is that of a type
-unfoldable pub hint_data : Hint → Data
-hint_data h =
+unfoldable pub hint_with : Members → Hint → Data
+hint_with more h =
     object (member (codes "kind") (number (unsigned 1))
     (member (codes "label") (string h.label)
     (member (codes "paddingLeft") (boolean h.space_before)
     (member (codes "paddingRight") (boolean h.space_behind)
-    (member (codes "position") (position_data h.at) (tooltip h.related))))))
+    (member (codes "position") (position_data h.at) more)))))
+
+abbrev pub hint_data : Hint → Data
+hint_data h = hint_with (tooltip h.related) h
 
 -- ---- hovers
 

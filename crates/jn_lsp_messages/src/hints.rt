@@ -1,5 +1,5 @@
 //! Inlay hints as JSON.
-ghost use Rattle.std.specs.Prelude.{◌≡◌, ◌∷◌, [], IfOk, codes};
+ghost use Rattle.std.specs.Prelude.{◌≡◌, IfOk, codes};
 ghost use Rattle.serde_json.specs.Data.{boolean, member, no_members, number, object, string, unsigned};
 ghost use Rattle.serde_json.specs.View.{view};
 ghost use Rattle.jn_lsp_messages.specs.Outgoing as spec;
@@ -26,17 +26,27 @@ pub(crate) fn hints_value(alloc: Global, hints: &[Hint]) -> Result<Value, OutOfM
 fn hint_value(alloc: Global, hint: &Hint) -> Result<Value, OutOfMemory>
     ensures { IfOk result (λ v. view v ≡ spec.hint_data hint.now) }
 {
-    match hint.related.as_slice() {
+    explained_value(alloc, hint, hint.related.as_slice())
+}
+
+/// A hint of which these places tell why.
+fn explained_value(alloc: Global, hint: &Hint, related: &[Related]) -> Result<Value, OutOfMemory>
+    ensures { IfOk result
+        (λ v. view v ≡ spec.hint_with (spec.tooltip related.now) hint.now) }
+{
+    match related {
         [] => Ok(bare_value(alloc, hint)?),
-        [first, more @ ..] => explained_value(alloc, hint, first, more),
+        [first, more @ ..] => {
+            let tooltip = tooltip_words(alloc, first, more)?;
+            Ok(titled_value(alloc, hint, tooltip.as_str())?)
+        }
     }
 }
 
-/// A hint of which nothing tells why.
-#[tactic(auto, unfolding(crate::specs::Outgoing::hint_data))]
+/// A hint without a tooltip.
+#[tactic(auto, unfolding(crate::specs::Outgoing::hint_with))]
 fn bare_value(alloc: Global, hint: &Hint) -> Result<Value, AllocError>
-    requires bare { hint.now.related ≡ [] }
-    ensures { IfOk result (λ v. view v ≡ spec.hint_data hint.now) }
+    ensures { IfOk result (λ v. view v ≡ spec.hint_with no_members hint.now) }
 {
     let position = position_value(alloc, hint.at)?;
     json!(in alloc; {
@@ -48,31 +58,25 @@ fn bare_value(alloc: Global, hint: &Hint) -> Result<Value, AllocError>
     })
 }
 
-/// A hint of which these places tell why.
-#[tactic(auto, unfolding(crate::specs::Outgoing::hint_data))]
-fn explained_value(
-    alloc: Global,
-    hint: &Hint,
-    first: &Related,
-    more: &[Related],
-) -> Result<Value, OutOfMemory>
-    requires related { hint.now.related ≡ first.now ∷ more.now }
-    ensures { IfOk result (λ v. view v ≡ spec.hint_data hint.now) }
+/// A hint with this tooltip.
+#[tactic(auto, unfolding(crate::specs::Outgoing::hint_with))]
+fn titled_value(alloc: Global, hint: &Hint, tooltip: &str) -> Result<Value, AllocError>
+    ensures { IfOk result
+        (λ v. view v ≡ spec.hint_with (spec.one (codes "tooltip") (string tooltip.now)) hint.now) }
 {
     let position = position_value(alloc, hint.at)?;
-    let tooltip = tooltip_words(alloc, first, more)?;
-    Ok(explained(
+    titled(
         alloc,
         hint.label.as_str(),
         hint.space_before,
         hint.space_behind,
         position,
-        tooltip.as_str(),
-    )?)
+        tooltip,
+    )
 }
 
 /// The object of a hint with a tooltip, from the values of its members.
-fn explained(
+fn titled(
     alloc: Global,
     label: &str,
     space_before: bool,
