@@ -55,8 +55,12 @@ fn chosen_slots(
     Ok(made)
 }
 
-/// A program that has these slots alone.
-pub(crate) fn chosen_program(
+/// A program that has its slots alone, which count as inferred only where they get words: where an annotation says the qualifier, and, where words
+/// are terse, it isn't the default.
+///
+/// # Errors
+/// No memory was found.
+pub fn chosen_program(
     alloc: Global,
     terse: bool,
     program: &Program,

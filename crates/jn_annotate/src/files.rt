@@ -110,7 +110,8 @@ pub fn fields_behind_type<'p>(fields: &'p [Field], declared: &TypeTree) -> &'p [
     }
 }
 
-fn methods_behind_type<'p>(methods: &'p [Method], declared: &TypeTree) -> &'p [Method]
+/// The methods after those of a type.
+pub fn methods_behind_type<'p>(methods: &'p [Method], declared: &TypeTree) -> &'p [Method]
     ensures { result.now ≡ drop (spec.type_methods (type_view declared.now)) methods.now }
 {
     match declared {

@@ -2,7 +2,7 @@
 #![tactic(auto)]
 
 pub mod annotating;
-mod chosen;
+pub mod chosen;
 pub mod files;
 pub mod imports;
 pub mod insert;

@@ -59,8 +59,8 @@ fn declares_in(name: NameNo, tree: &FileTree) -> bool
     has_type(name, &tree.types)
 }
 
-/// Whether a type of the files has this name.
-fn declares(trees: &[FileTree], name: NameNo) -> bool
+/// Whether a type of the files has this name, so that no import brings an annotation of it (JLS 6.4.1).
+pub fn declares(trees: &[FileTree], name: NameNo) -> bool
     ensures { result ≡ spec.declares (map file_view trees.now) name.0 }
 {
     for tree in trees {

@@ -3,6 +3,7 @@ use Rattle.std.proofs.Common.{◌≡◌, ℕ, suc, ◌+◌, Bool, true, false, n
 use Rattle.std.specs.Prelude.{bytes_eq, filter, slice_get, slice_index_or}
 use Rattle.std.proofs.lemmas.Bool.{false≢true, leb-false, leb-true}
 use Rattle.jn_annotate.specs.Annotated.{Annotated, HasNone, annotated_from, has_no_spelling, has_shared_type}
+use Rattle.jn_annotate.specs.Chosen.{chosen_from, chosen_slots}
 use Rattle.jn_annotate.specs.Imports.{with_lines}
 use Rattle.jn_annotate.specs.Insertions.{file_fields, file_methods, in_file}
 use Rattle.jn_annotate.specs.Shared.{IsLeast, shared_slots}
@@ -27,27 +28,26 @@ use Rattle.jn_trees.specs.Trees.{SourceTree}
 use Rattle.jn_lsp_actions.specs.Annotating.{AreAdded, AreAddedIn, Either, bare, text_of}
 use Rattle.jn_lsp_actions.specs.Hinted.{AreInferred, hint_at, hints_of, is_shown, shown, shown_in, unless_shared}
 use Rattle.jn_lsp_actions.specs.Slots.{types_slots}
-use Rattle.jn_lsp_actions.specs.Spelled.{spelled, spelled_from}
 use Rattle.jn_lsp_actions.specs.declared.hints.SlotHint.{SlotHint}
 use Rattle.jn_lsp_actions.proofs.Reasoned.{all_bare}
 use Rattle.jn_lsp_actions.proofs.Slotting.{file_long}
 
 -- ---- slots
 
-kept : (a b : Bool) → (a && b) ≡ false → (a && not b) ≡ a
+kept : (a b : Bool) → (a && b) ≡ false → (a && (not b && true)) ≡ a
 kept true true e = sym e
 kept true false e = refl
 kept false b e = refl
 
 -- all stay that an annotation says
-all_spelled : (s : List Qualifier) (at : ℕ) (slots : List SlotInfo) → ((i : ℕ) → (is_inferred (slice_get slots i) && is_unspelled (slice_index_or s (at + i) no_qual)) ≡ false) → spelled_from s at slots ≡ slots
+all_spelled : (s : List Qualifier) (at : ℕ) (slots : List SlotInfo) → ((i : ℕ) → (is_inferred (slice_get slots i) && is_unspelled (slice_index_or s (at + i) no_qual)) ≡ false) → chosen_from false s at slots ≡ slots
 all_spelled s at [] none = refl
 all_spelled s at (info ∷ slots) none =
     let first : (info.inferred && is_unspelled (slice_index_or s at no_qual)) ≡ false = subst (λ n. (info.inferred && is_unspelled (slice_index_or s n no_qual)) ≡ false) (omega arith) (none 0) in
-    let rest : spelled_from s (at + 1) slots ≡ slots = all_spelled s (at + 1) slots (λ i. subst (λ n. (is_inferred (slice_get slots i) && is_unspelled (slice_index_or s n no_qual)) ≡ false) (omega arith) (none (suc i))) in
+    let rest : chosen_from false s (at + 1) slots ≡ slots = all_spelled s (at + 1) slots (λ i. subst (λ n. (is_inferred (slice_get slots i) && is_unspelled (slice_index_or s n no_qual)) ≡ false) (omega arith) (none (suc i))) in
     λ j. record { start = info.start; inferred = kept info.inferred (is_unspelled (slice_index_or s at no_qual)) first j } ∷ rest j
 
-same_slots : (P : Program) (s : List Qualifier) → HasNone (has_no_spelling P s) → spelled s P.slots ≡ P.slots
+same_slots : (P : Program) (s : List Qualifier) → HasNone (has_no_spelling P s) → chosen_slots false P s ≡ P.slots
 same_slots P s none = all_spelled s 0 P.slots (λ i. subst (λ n. (is_inferred (slice_get P.slots i) && is_unspelled (slice_index_or s n no_qual)) ≡ false) (omega arith) (none i))
 
 -- ---- texts

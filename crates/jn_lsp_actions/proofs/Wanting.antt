@@ -1,12 +1,11 @@
 -- Slots at which rows want null, one list of them after the other.
-use Rattle.std.proofs.Common.{◌≡◌, ℕ, suc, ◌+◌, List, [], ◌∷◌, ◌++◌, map, Some, refl, ap, ◌∙◌, append_assoc, arith}
-use Rattle.std.specs.Prelude.{drop, flat_map, slice_get}
+use Rattle.std.proofs.Common.{◌≡◌, ℕ, suc, List, [], ◌∷◌, ◌++◌, map, Some, refl, ap, ◌∙◌, append_assoc}
+use Rattle.std.specs.Prelude.{flat_map, slice_get}
 use Rattle.jn_base.specs.declared.place.Span.{Span}
 use Rattle.jn_contrib.specs.Entries.{AreOverriders}
 use Rattle.jn_contrib.specs.declared.listed.Overrider.{Overrider}
 use Rattle.jn_notes.specs.declared.pairs.Part.{Part}
 use Rattle.jn_points.specs.Lookup.{method_at}
-use Rattle.jn_points.specs.declared.program.Method.{Method}
 use Rattle.jn_points.specs.declared.program.Program.{Program}
 use Rattle.jn_quals.specs.Qualifier.{Qualifier}
 use Rattle.jn_transfer.specs.Pairs.{under}
@@ -19,10 +18,6 @@ next_slots old one a rest whole h k = ap (λ x. x ++ rest) h ∙ append_assoc ol
 -- one part after the other
 pub both_want : (old one two a b : List ℕ) → one ≡ old ++ a → two ≡ one ++ b → two ≡ old ++ (a ++ b)
 both_want old one two a b h k = k ∙ ap (λ x. x ++ b) h ∙ append_assoc old a b
-
--- none more after so many
-pub and_nothing : (methods rest : List Method) (n : ℕ) → rest ≡ drop (n + 0) methods → rest ≡ drop n methods
-and_nothing methods rest n h = h ∙ ap (λ k. drop k methods) (let e : n + 0 ≡ n = omega arith in e)
 
 -- the listed methods are those that override
 module _ (s : List Qualifier) (P : Program) (span : Span) (part : Part) where

@@ -1,9 +1,10 @@
 -- The words that are shown in a range of a file, where they aren't written: those that annotating puts there for what is inferred, with why.
-use Rattle.std.specs.Prelude.{ℕ, ◌≡◌, ◌⊎◌, ◌-◌, Bool, bytes_eq, codes, drop, filter, if◌then◌else◌, length, List, [], ◌∷◌, map, nat_eq, take}
+use Rattle.std.specs.Prelude.{ℕ, ◌≡◌, ◌⊎◌, ◌-◌, Bool, false, bytes_eq, codes, drop, filter, if◌then◌else◌, length, List, [], ◌∷◌, map, nat_eq, take}
 use Rattle.std.specs.List.{ends_with, starts_with}
 use Rattle.std.specs.Str.Lossy.{utf8_lossy}
 use Rattle.jn_base.specs.declared.infer.Infer.{Infer}
 use Rattle.jn_base.specs.declared.place.Row.{Row}
+use Rattle.jn_annotate.specs.Chosen.{chosen_slots}
 use Rattle.jn_annotate.specs.Insertions.{file_fields, file_methods, in_file}
 use Rattle.jn_annotate.specs.Shared.{shared_slots}
 use Rattle.jn_env.specs.Order.{Table}
@@ -31,7 +32,6 @@ use Rattle.jn_trees.specs.declared.token.Token.{Token}
 use Rattle.jn_trees.specs.Trees.{SourceTree}
 use Rattle.jn_lsp_actions.specs.Asking.{meets}
 use Rattle.jn_lsp_actions.specs.Slots.{types_slots}
-use Rattle.jn_lsp_actions.specs.Spelled.{spelled}
 use Rattle.jn_lsp_actions.specs.declared.hints.SlotHint.{SlotHint}
 
 -- ---- words at their position
@@ -99,7 +99,7 @@ module _ (encoding : Encoding) (name : List ℕ) (range : Range) where
 
   -- those of files with this program, under its signature, for each inferred slot that an annotation says
   abbrev pub hints_of : List SourceFile → List (List Token) → List SourceTree → Program → List Qualifier → List SlotHint
-  hints_of files tokens trees P s = unless_shared (shared_slots P s trees P.fields) (shown_in (spelled s P.slots) s files tokens trees P.fields (drop 1 P.methods))
+  hints_of files tokens trees P s = unless_shared (shared_slots P s trees P.fields) (shown_in (chosen_slots false P s) s files tokens trees P.fields (drop 1 P.methods))
 
 -- ---- why
 

@@ -11,11 +11,12 @@ ghost use Rattle.jn_lsp_actions.specs.Written as spec;
 
 use crate::alone::alone_program;
 use crate::mending::{Mending, mended};
-use crate::nullable::{declares, null_puts};
+use crate::nullable::null_puts;
 use jn_annotate::files::{fields_behind_types, file_puts, methods_behind_types};
 use jn_annotate::insert::Put;
 use jn_annotate::lines::with_lines;
 use jn_annotate::members::next_methods;
+use jn_annotate::taken::declares;
 use jn_annotate::words::is_unspelled;
 use jn_base::{OutOfMemory, Seq, SlotNo, Text};
 use jn_front::SourceFile;

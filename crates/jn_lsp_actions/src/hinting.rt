@@ -1,5 +1,6 @@
 //! From files to the hints of one of them.
-ghost use Rattle.std.specs.Prelude.{◌≡◌, ◌≤◌, ◌<◌, ◌^◌, drop, length, map, IfOk, IsSome};
+ghost use Rattle.std.specs.Prelude.{◌≡◌, ◌≤◌, ◌<◌, ◌^◌, drop, length, map, IfOk, IsSome, false};
+ghost use Rattle.jn_annotate.specs.Chosen.{chosen_slots};
 ghost use Rattle.jn_annotate.specs.Insertions.{in_file};
 ghost use Rattle.jn_front.specs.Counted.{ReadsFit};
 ghost use Rattle.jn_front.specs.Files.{files_of_reads};
@@ -11,14 +12,13 @@ ghost use Rattle.jn_trees.specs.View.{file_view};
 ghost use Rattle.jn_phases.specs.Phases.{IsTypedOr, TypedProgramOf};
 ghost use Rattle.jn_lsp_actions.specs.Hinted as spec;
 ghost use Rattle.jn_lsp_actions.specs.Slots.{types_slots};
-ghost use Rattle.jn_lsp_actions.specs.Spelled.{spelled};
 
 use crate::choosing::Asked;
 use crate::explaining::with_reasons;
 use crate::files::MOST_FILES;
 use crate::hints::{SlotHint, shown};
 use crate::slots::file_slots;
-use crate::spelled::spelled_program;
+use jn_annotate::chosen::chosen_program;
 use jn_annotate::files::{fields_behind_types, file_puts, methods_behind_types};
 use jn_annotate::members::next_methods;
 use jn_annotate::shared::first_shared;
@@ -133,11 +133,11 @@ fn unshared_hints(
 ) -> Result<Seq<SlotHint>, OutOfMemory>
     requires fit { AllFit files.now }
     ensures { IfOk result (λ hints. hints
-        ≡ spec.shown_in asked.now.encoding asked.now.name.now asked.now.range (spelled sig.now program.now.slots)
+        ≡ spec.shown_in asked.now.encoding asked.now.name.now asked.now.range (chosen_slots false program.now sig.now)
         sig.now files.now tokens.now (map file_view trees.now) program.now.fields
         (drop 1 program.now.methods)) }
 {
-    let said = spelled_program(alloc, program, sig)?;
+    let said = chosen_program(alloc, false, program, sig)?;
     shown_in(
         files,
         alloc,

@@ -5,12 +5,10 @@ ghost use Rattle.jn_sigs.specs.Signature as sigs;
 ghost use Rattle.jn_trees.specs.Spelling.{spell_marks, spell_result};
 ghost use Rattle.jn_trees.specs.View.{annotation_names, brackets_view, declarator_views, file_view, local_mark, local_marks, mark, marks, member_view, member_views, parameter_views, receiver_view, result_view, type_use_view, type_view};
 ghost use Rattle.jn_places.specs.Places.{behind, spell_receiver};
-ghost use Rattle.jn_annotate.specs.Insertions.{type_methods};
 ghost use Rattle.jn_annotate.specs.Puts.{insertions};
-ghost use Rattle.jn_annotate.specs.Taken.{declares, is_called, type_name};
 ghost use Rattle.jn_lsp_actions.specs.Nulls as spec;
 
-use jn_annotate::files::{fields_behind_type, methods_behind_types};
+use jn_annotate::files::{fields_behind_type, methods_behind_type};
 use jn_annotate::insert::Put;
 use jn_annotate::members::{fields_behind, first_slot, methods_behind};
 use jn_annotate::positions::put_nullity;
@@ -28,7 +26,6 @@ use jn_trees::{
     ResultUse, Token, TypeTree, TypeUse,
 };
 use std::alloc::Global;
-use std::slice;
 
 /// Whether the annotation says whether what is declared may be null.
 fn is_nullity(name: NameNo) -> bool
@@ -401,14 +398,6 @@ fn put_type(
     }
 }
 
-/// The methods after those of a type.
-#[tactic(auto, using(crate::proofs::Wanting::and_nothing))]
-pub(crate) fn methods_behind_type<'p>(methods: &'p [Method], declared: &TypeTree) -> &'p [Method]
-    ensures { result.now ≡ drop (type_methods (type_view declared.now)) methods.now }
-{
-    methods_behind_types(methods, slice::from_ref(declared))
-}
-
 /// Of types, in their order.
 #[tactic(auto, using(jn_annotate::proofs::Walking::next_part))]
 fn put_types(
@@ -434,38 +423,6 @@ fn put_types(
         methods = methods_behind_type(methods, declared);
     }
     Ok(())
-}
-
-fn type_name(declared: &TypeTree) -> NameNo
-    ensures { result ≡ type_name (type_view declared.now) }
-{
-    match declared {
-        TypeTree::Class { name, .. } => name.name,
-        TypeTree::Interface { name, .. } => name.name,
-    }
-}
-
-fn has_type(name: NameNo, types: &[TypeTree]) -> bool
-    ensures { result ≡ some_of (is_called name.0) (map type_view types.now) }
-{
-    for declared in types {
-        if type_name(declared).0 == name.0 {
-            return true;
-        }
-    }
-    false
-}
-
-/// Whether a type of the files has the name, so that no import brings the annotation.
-pub fn declares(trees: &[FileTree], name: NameNo) -> bool
-    ensures { result ≡ declares (map file_view trees.now) name.0 }
-{
-    for tree in trees {
-        if has_type(name, &tree.types) {
-            return true;
-        }
-    }
-    false
 }
 
 /// The word for the slot, in a file that declares the first of these fields and methods.

@@ -5,8 +5,7 @@ ghost use Rattle.jn_transfer.specs.Contributions.{is_inferred};
 ghost use Rattle.jn_trees.specs.View.{member_view, member_views, parameter_views, result_view, type_view};
 ghost use Rattle.jn_lsp_actions.specs.Slots as spec;
 
-use crate::nullable::methods_behind_type;
-use jn_annotate::files::fields_behind_type;
+use jn_annotate::files::{fields_behind_type, methods_behind_type};
 use jn_annotate::members::{fields_behind, first_slot, methods_behind};
 use jn_base::SlotNo;
 use jn_base::lists::put;
