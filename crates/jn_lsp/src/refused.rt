@@ -41,6 +41,6 @@ pub(crate) fn notes_of_refused<R: Threads + Sync, G: Gate + Sync>(
         return Ok(notes);
     }
     let typed = type_files(rt, gate, alloc, WORKERS, infer, &reads)?;
-    let notes = notes_of_phase(alloc, &reads, &typed.names, &typed.trees, rows)?;
+    let notes = notes_of_phase(rt, alloc, &reads, &typed.names, &typed.trees, rows)?;
     Ok(notes)
 }

@@ -5,3 +5,5 @@ pub mod Forms
 pub mod Scopes
 pub mod Stopping
 pub mod Tables
+mod Unread
+mod Having

@@ -7,3 +7,4 @@ pub mod Stands
 pub mod Stops
 pub mod Told
 pub mod Trees
+pub mod Wanting

@@ -1,7 +1,7 @@
--- The notes of rows of files that have trees: beside a row of the class table or a second local, the other declaration of which it speaks; beside a member that isn't there, those of its name; beside a form that isn't of the subset, its cause.
-use Rattle.std.specs.Prelude.{ℕ, List, ◌++◌, codes, find, Option, option_map, false}
+-- The notes of rows of files that have trees: beside a row of the class table or a second local, the other declaration of which it speaks; beside a member that isn't there, those of its name; beside a form that isn't of the subset, its cause; beside a type that doesn't fit, it and the one that is wanted.
+use Rattle.std.specs.Prelude.{ℕ, Bool, true, cond, List, [], ◌++◌, codes, find, Option, option_map, false}
 use Rattle.jn_base.specs.declared.code.Code.{Code}
-use Rattle.jn_base.specs.declared.code.Code.TheVariants.{J1, J2, J5, T1, T4, T5, T6, T7}
+use Rattle.jn_base.specs.declared.code.Code.TheVariants.{J1, J2, J5, J7, T1, T4, T5, T6, T7}
 use Rattle.jn_base.specs.declared.place.Row.{Row}
 use Rattle.jn_base.specs.declared.place.Span.{Span}
 use Rattle.jn_points.specs.declared.program.Program.{Program}
@@ -15,6 +15,7 @@ use Rattle.jn_note_words.specs.declared.note.Notes.{Notes}
 use Rattle.jn_notes.specs.Asked.{same_span}
 use Rattle.jn_note_words.specs.Worded.{text_at}
 use Rattle.jn_refused_notes.specs.Refused.{files_refusals}
+use Rattle.jn_type_notes.specs.Wording.{type_notes}
 use Rattle.jn_phase_notes.specs.declared.repeated.Second.{Second}
 use Rattle.jn_phase_notes.specs.declared.trees.Gathered.{Gathered}
 use Rattle.jn_phase_notes.specs.Earlier.{files_seconds}
@@ -23,6 +24,7 @@ use Rattle.jn_phase_notes.specs.Others.{other}
 use Rattle.jn_phase_notes.specs.Possible.{member_notes}
 use Rattle.jn_phase_notes.specs.Stops.{one_note}
 use Rattle.jn_phase_notes.specs.Told.{cause_note}
+use Rattle.jn_phase_notes.specs.Wanting.{note_at}
 
 -- what is said before the name of the other declaration
 abbrev pub words_before : Code → List ℕ
@@ -46,17 +48,18 @@ other_note names code x = record { joined = false; ends = false; words = words_b
 abbrev pub first_local : List Second → Span → Option Identifier
 first_local ss span = option_map (λ (x : Second). x.first) (find (λ (x : Second). same_span x.span span) ss)
 
--- what is read off trees: the second locals, the members that are named, and what may not be of the subset
-abbrev pub gathered : List PlacedFile → Gathered
-gathered trees = record { seconds = files_seconds trees; mentions = files_mentions trees; refusals = files_refusals trees }
+-- what is read off trees: the second locals, the members that are named, what may not be of the subset, and, where they are wanted, the types that don't fit
+abbrev pub gathered : Bool → List (List ℕ) → List PlacedFile → Gathered
+gathered typed names trees = record { seconds = files_seconds trees; mentions = files_mentions trees; refusals = files_refusals trees; types = cond typed (type_notes names trees) [] }
 
--- the notes of a row, by what is declared and read off: that of the other declaration, where it speaks of one, those of the members that it may mean, or that of its cause
+-- the notes of a row, by what is declared and read off: that of the other declaration, where it speaks of one, those of the members that it may mean, that of its cause, or that of the types
 abbrev pub notes_by : List (List ℕ) → List ClassHead → Program → Gathered → Span → Code → Notes
 notes_by names hs P g span J1 = one_note (option_map (other_note names J1) (first_local g.seconds span))
 notes_by names hs P g span J2 = member_notes names P g.mentions span
 notes_by names hs P g span J5 = one_note (cause_note g.refusals span)
+notes_by names hs P g span J7 = one_note (note_at g.types span)
 notes_by names hs P g span code = one_note (option_map (other_note names code) (other hs P span code))
 
 -- the same of files
 abbrev pub row_notes : List (List ℕ) → List PlacedFile → Row → Notes
-row_notes names trees row = notes_by names (heads trees) (table (heads trees)) (gathered trees) row.span row.code
+row_notes names trees row = notes_by names (heads trees) (table (heads trees)) (gathered true names trees) row.span row.code

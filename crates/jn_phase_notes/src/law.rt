@@ -14,13 +14,21 @@ ghost use Rattle.jn_command.specs.Stands.{StandIn};
 ghost use Rattle.jn_front.specs.declared.source.SourceRead.{SourceRead};
 ghost use Rattle.jn_front.specs.Files.{AreReads, files_of_reads, most_files};
 ghost use Rattle.jn_front.specs.Limits.{row_at};
-ghost use Rattle.jn_base.specs.declared.code.Code.TheVariants.{B1};
+ghost use Rattle.jn_base.specs.declared.code.Code.TheVariants.{B1, J7};
+ghost use Rattle.jn_base.specs.declared.infer.Infer.{Infer};
+ghost use Rattle.jn_classtable.specs.Rows.{t_rows};
+ghost use Rattle.jn_heads.specs.Extract.{heads};
+ghost use Rattle.jn_note_words.specs.declared.note.Note.{Note};
+ghost use Rattle.jn_points.specs.BaseRows.{IsBaseRow};
+ghost use Rattle.jn_program_law.specs.FileProgram.{inferring, j_rows};
+ghost use Rattle.jn_phase_notes.specs.Trees.{row_notes};
 ghost use Rattle.jn_phases.specs.Phases.{AreTreesOrNone};
 ghost use Rattle.jn_phase_notes.specs.Others.{clashes, has_abstract, hides};
 ghost use Rattle.jn_phase_notes.specs.Phases.{AreNotesBy, PhaseNotes};
 ghost use Rattle.jn_phase_notes.specs.Stops.{AreStops};
 
 use jn_follow::law::rows_have_one_stop_note;
+use jn_type_notes::law::rows_have_notes;
 
 /// Rows of files without trees have one list of notes: a text stops being of the subset at one place.
 pub fn texts_have_one_list_of_notes()
@@ -52,3 +60,13 @@ pub fn notes_by_what_was_read_are_those_of_files()
         → most_files < length files → row_at most_files B1 ∷ [] ≡ rows
         → AreStops some rows notes → PhaseNotes files rows notes }
 {}
+
+/// Each row J7 of files has a note, which says what type is found and what is wanted.
+pub fn rows_of_types_have_notes()
+    ensures { (names : List (List ℕ)) (infer : Infer) (trees : List PlacedFile) (row : Row)
+        → t_rows (heads trees) ≡ [] → j_rows trees ≡ []
+        → IsBaseRow (inferring infer trees) row → row.code ≡ J7
+        → (note : Note) × ((row_notes names trees row).shown ≡ note ∷ []) }
+{
+    rows_have_notes();
+}

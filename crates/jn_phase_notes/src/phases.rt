@@ -12,12 +12,15 @@ use jn_front::SourceRead;
 use jn_note_words::Notes;
 use jn_trees::{FileTree, Names};
 use std::alloc::Global;
+use std::thread::Threads;
 
-/// The notes of rows of a phase, row by row: by the trees of the files, or by their texts where no name of them is known.
+/// The notes of rows of a phase, row by row: by the trees of the files, or by their texts where no name of them is known. Where types don't fit,
+/// workers lower the files once more.
 ///
 /// # Errors
 /// No memory was found, or numbers of 32 bits aren't enough for what is declared; the class table has no rows then.
-pub fn notes_of_phase(
+pub fn notes_of_phase<R: Threads + Sync>(
+    rt: &R,
     alloc: Global,
     reads: &[SourceRead],
     names: &Names,
@@ -32,6 +35,6 @@ pub fn notes_of_phase(
     if names.len() == 0 {
         notes_of_texts(alloc, reads, rows)
     } else {
-        notes_of_trees(alloc, names, trees, rows)
+        notes_of_trees(rt, alloc, names, trees, rows)
     }
 }

@@ -1,5 +1,6 @@
 //! The notes of rows of files that have trees: beside a row of the class table or a second local, the other declaration of which it
-//! speaks; beside a member that isn't there, those of its name; beside a form that isn't of the subset, its cause.
+//! speaks; beside a member that isn't there, those of its name; beside a form that isn't of the subset, its cause; beside a type
+//! that doesn't fit, it and the one that is wanted.
 ghost use Rattle.std.specs.Prelude.{◌≡◌, ◌<◌, ◌^◌, ◌++◌, length, map, option_map, IfOk, IfSome};
 ghost use Rattle.jn_places.specs.PlacedView.{placed_file};
 ghost use Rattle.jn_heads.specs.Extract as extract;
@@ -21,6 +22,7 @@ use crate::refused::cause_notes;
 use crate::repeated::{Second, seconds_of};
 use crate::saying::mention_notes;
 use crate::stops::one_note;
+use crate::typed::{notes_at, some_typed, types_if};
 use jn_base::lists::put;
 use jn_base::{Code, FileNo, NameNo, OutOfMemory, Row, Seq, Span};
 use jn_classtable::counting::is_small;
@@ -34,19 +36,29 @@ use jn_points::Program;
 use jn_refused_notes::{Refusal, refusals_of};
 use jn_trees::{FileTree, Identifier, Names};
 use std::alloc::{AllocError, Global};
+use std::thread::Threads;
 
-/// What is read off trees: the second locals, the members that are named, and what may not be of the subset.
+/// What is read off trees: the second locals, the members that are named, what may not be of the subset, and the notes of types that don't fit.
 #[derive(Drop)]
 pub struct Gathered {
     pub seconds: Seq<Second>,
     pub mentions: Seq<Mention>,
     pub refusals: Seq<Refusal>,
+    pub types: Seq<Note>,
 }
 
-/// Reads it off trees.
-fn gather(alloc: Global, trees: &[FileTree]) -> Result<Gathered, AllocError>
-    ensures { IfOk result (λ gathered. gathered ≡ spec.gathered (map placed_file trees.now)) }
+/// Reads it off trees; types are looked at where that is wanted.
+fn gather<R: Threads + Sync>(
+    rt: &R,
+    alloc: Global,
+    names: &Names,
+    trees: &[FileTree],
+    typed: bool,
+) -> Result<Gathered, OutOfMemory>
+    ensures { IfOk result
+        (λ gathered. gathered ≡ spec.gathered typed names.now (map placed_file trees.now)) }
 {
+    let types = types_if(rt, alloc, names, trees, typed)?;
     let seconds = seconds_of(alloc, trees)?;
     let mentions = mentions_of(alloc, trees)?;
     let refusals = refusals_of(alloc, trees)?;
@@ -54,6 +66,7 @@ fn gather(alloc: Global, trees: &[FileTree]) -> Result<Gathered, AllocError>
         seconds,
         mentions,
         refusals,
+        types,
     })
 }
 
@@ -256,6 +269,7 @@ fn notes_of_row(
             mention_notes(alloc, names, program, named)
         }
         Code::J5 => cause_notes(alloc, gathered.refusals.as_slice(), row.span),
+        Code::J7 => notes_at(alloc, gathered.types.as_slice(), row.span),
         _ => {
             let found = other_by(alloc, heads, program, index, row.span, row.code)?;
             notes_of_other(alloc, names, row.code, elsewhere(row.span, found))
@@ -309,11 +323,12 @@ fn notes_of_declared(
     notes_of_rows(alloc, names, heads, &program, &index, gathered, rows)
 }
 
-/// The notes of rows of files that have these trees and names, row by row.
+/// The notes of rows of files that have these trees and names, row by row. Where a row is J7, workers lower the files to their program.
 ///
 /// # Errors
 /// No memory was found, or numbers of 32 bits aren't enough for what is declared; the class table has no rows then.
-pub fn notes_of_trees(
+pub fn notes_of_trees<R: Threads + Sync>(
+    rt: &R,
     alloc: Global,
     names: &Names,
     trees: &[FileTree],
@@ -327,6 +342,7 @@ pub fn notes_of_trees(
         return Err(OutOfMemory);
     }
     let declared = Declarations::new(alloc, heads)?;
-    let gathered = gather(alloc, trees)?;
+    let typed = some_typed(rows);
+    let gathered = gather(rt, alloc, names, trees, typed)?;
     notes_of_declared(alloc, names, &declared, &gathered, rows)
 }

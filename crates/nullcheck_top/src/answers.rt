@@ -67,7 +67,8 @@ fn drops_trees(run: bool, report: &Report) -> bool
 }
 
 /// Writes what files that were read came to: after these bytes their report, or the run of accepted files where one is asked for.
-fn answer_checked<P: Reporter, K: Sink>(
+fn answer_checked<R: Threads + Sync, P: Reporter, K: Sink>(
+    rt: &R,
     alloc: Global,
     command: &Command,
     reporter: P,
@@ -105,6 +106,7 @@ fn answer_checked<P: Reporter, K: Sink>(
         ),
         None => write(
             report_output(
+                rt,
                 alloc,
                 reads,
                 &checked.names,
@@ -150,7 +152,7 @@ fn answer_reads<R: Threads + Sync, G: Gate + Sync, P: Reporter, K: Sink>(
             if drops {
                 checked.trees.clear();
             }
-            let status = answer_checked(alloc, command, reporter, reads, front, &checked, out);
+            let status = answer_checked(rt, alloc, command, reporter, reads, front, &checked, out);
             forget(checked);
             status
         }

@@ -35,6 +35,7 @@ use jn_reporters::Reporter;
 use jn_sigs::Sig;
 use jn_trees::{FileTree, Names};
 use std::alloc::{AllocError, Global};
+use std::thread::Threads;
 
 /// The greatest number of files.
 pub(crate) const MOST_FILES: usize = 64;
@@ -48,7 +49,8 @@ fn joined(alloc: Global, front: &[u8], back: &[u8]) -> Result<Seq<u8>, AllocErro
 }
 
 /// Hands the report of files that were read to a reporter, with the notes of its rows where it shows notes.
-fn show_found<P: Reporter>(
+fn show_found<R: Threads + Sync, P: Reporter>(
+    rt: &R,
     alloc: Global,
     reads: &[SourceRead],
     names: &Names,
@@ -74,7 +76,7 @@ fn show_found<P: Reporter>(
     match refused_for(reporter.shows_notes(), &found.report) {
         None => show_checked(alloc, reads, names, found, reporter),
         Some(rows) => {
-            let notes = notes_of_phase(alloc, reads, names, trees, rows)?;
+            let notes = notes_of_phase(rt, alloc, reads, names, trees, rows)?;
             show_with(alloc, reads, &found.report, &notes, reporter)
         }
     }
@@ -181,7 +183,8 @@ fn notes_of(
 }
 
 /// The output of a report of files that were read: these bytes, and then the report.
-pub(crate) fn report_output<P: Reporter>(
+pub(crate) fn report_output<R: Threads + Sync, P: Reporter>(
+    rt: &R,
     alloc: Global,
     reads: &[SourceRead],
     names: &Names,
@@ -203,7 +206,7 @@ pub(crate) fn report_output<P: Reporter>(
         → ShowsReport (P.form reporter).notes (shown_behind (P.form reporter).rows (P.form reporter).shown) infer
         files found.now.report front.now o.bytes) }
 {
-    let shower = show_found(alloc, reads, names, trees, found, reporter)?;
+    let shower = show_found(rt, alloc, reads, names, trees, found, reporter)?;
     Ok(Output {
         status: found.report.status(),
         bytes: joined(alloc, front, shower.bytes())?,

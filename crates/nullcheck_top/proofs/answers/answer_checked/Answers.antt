@@ -37,7 +37,7 @@ returns-in-None-clause-write g c e =
     no_fault (g.K.Sink.written c.args.out.now) (g.K.Sink.written c.write.new.out) (g.K.Sink.faults c.args.out.now) (g.K.Sink.faults c.write.new.out) c.write.result c.report_output.result (status_written c.args.checked.now.found.report c.report_output.result c.report_output.ensures.status) c.write.ensures e
 
 pub report_output-requires-clause-found : goal.report_output-requires-clause-found
-report_output-requires-clause-found g c = (c.args.command.now.infer, c.requires.found)
+report_output-requires-clause-found g c κs lives = (c.args.command.now.infer, c.requires.found)
 
 pub report_output-requires-clause-trees : goal.report_output-requires-clause-trees
-report_output-requires-clause-trees g c = subst (λ (ts : List FileTree). AreAtHand c.args.reads.now c.args.checked.now.found.report c.args.checked.now.names (map placed_file ts)) (sym c.deref.ensures.value) c.requires.trees
+report_output-requires-clause-trees g c κs lives = subst (λ (ts : List FileTree). AreAtHand c.args.reads.now c.args.checked.now.found.report c.args.checked.now.names (map placed_file ts)) (sym c.deref.ensures.value) c.requires.trees

@@ -1,0 +1,3 @@
+pub mod Containing
+mod Same
+mod Noting

@@ -1,0 +1,2 @@
+pub mod Mismatched
+pub mod Wording
