@@ -1,0 +1,3 @@
+mod Marking
+pub mod Nearing
+mod Siting
