@@ -2,80 +2,63 @@
 ghost use Rattle.std.specs.Prelude.{◌≡◌, ◌<◌, ◌^◌, length, find, option_map, IfOk, IfSome, MatchOption, None, Some};
 ghost use Rattle.jn_points.specs.Lookup.{method_at};
 ghost use Rattle.jn_points.specs.Members as members;
-ghost use Rattle.jn_index.specs.Index.{IsIndex};
 ghost use Rattle.jn_index.specs.Users.{AreUsers};
 ghost use Rattle.jn_declaration_rules.specs.Rows as rules;
-ghost use Rattle.jn_index.specs.Sizes.{ParamsFit};
 ghost use Rattle.jn_phase_notes.specs.Others as spec;
 
 use crate::places::{class_there, field_name, field_there, method_name, method_there};
 use jn_base::{ClassNo, MethodNo, NameNo, Span};
 use jn_declaration_rules::overrides::same_bases;
-use jn_index::index::Index;
+use jn_index::indexed::IndexedProgram;
+use jn_index::lookup;
 use jn_index::pairs::{is_pair_of, users};
-use jn_index::{fits, lookup};
 use jn_points::lookup::{field_at, method_at};
 use jn_points::members::is_named;
-use jn_points::{BaseType, Field, Method, Program};
+use jn_points::{Field, Method};
 use jn_trees::Identifier;
 use std::alloc::{AllocError, Global};
 
-fn is_subclass(program: &Program, index: &Option<Index>, c: ClassNo, d: ClassNo) -> bool
-    requires { IfSome index.now (λ i. IsIndex program.now i) }
+fn is_subclass(program: &IndexedProgram, c: ClassNo, d: ClassNo) -> bool
     ensures { result ≡ members.sub program.now c.0 d.0 }
 {
-    match index {
-        None => jn_points::is_subclass(program, c, d),
-        Some(index) => lookup::is_subclass(program, index, c, d),
-    }
-}
-
-fn is_sub(program: &Program, index: &Option<Index>, low: BaseType, high: BaseType) -> bool
-    requires { IfSome index.now (λ i. IsIndex program.now i) }
-    ensures { result ≡ members.fits program.now low high }
-{
-    match index {
-        None => jn_points::is_sub(program, low, high),
-        Some(index) => fits::is_sub(program, index, low, high),
+    match program.index() {
+        None => jn_points::is_subclass(program.program(), c, d),
+        Some(index) => lookup::is_subclass(program.program(), index, c, d),
     }
 }
 
 fn method_of(
-    program: &Program,
-    index: &Option<Index>,
+    program: &IndexedProgram,
     class: ClassNo,
     name: NameNo,
     arity: usize,
 ) -> Option<MethodNo>
-    requires index { IfSome index.now (λ i. IsIndex program.now i) }
-    requires small { length program.now.methods < 2 ^ 32 }
     requires short { arity < 2 ^ 32 }
     ensures { MatchOption result (members.method_of program.now class.0 name.0 arity ≡ None)
         (λ m. members.method_of program.now class.0 name.0 arity ≡ Some m.0) }
 {
-    match index {
-        None => jn_points::method_of(program, class, name, arity as u32),
-        Some(index) => lookup::method_of(program, index, class, name, arity),
+    program.facts();
+    match program.index() {
+        None => jn_points::method_of(program.program(), class, name, arity as u32),
+        Some(index) => lookup::method_of(program.program(), index, class, name, arity),
     }
 }
 
 /// The classes that have or inherit a method, where there is an index to ask.
 fn users_of(
     alloc: Global,
-    program: &Program,
-    index: &Option<Index>,
+    program: &IndexedProgram,
     m: u32,
     over: &Method,
 ) -> Result<Option<Vec<u32>>, AllocError>
-    requires index { IfSome index.now (λ i. IsIndex program.now i) }
     requires there { method_at program.now m ≡ Some over.now }
     ensures { IfOk result
         (λ o. IfSome o (λ users. AreUsers program.now m over.now users.items)) }
 {
-    match index {
+    match program.index() {
         None => Ok(None),
         Some(index) => {
-            let found = users(alloc, program, index, m, over)?;
+            let found = users(alloc, program.program(), index, m, over)?;
             Ok(Some(found))
         }
     }
@@ -83,42 +66,35 @@ fn users_of(
 
 /// Whether the first method, of which these are the users, overrides the second.
 fn is_pair(
-    program: &Program,
-    index: &Option<Index>,
+    program: &IndexedProgram,
     users: &Option<Vec<u32>>,
     m: u32,
     over: &Method,
     k: u32,
     under: &Method,
 ) -> bool
-    requires index { IfSome index.now (λ i. IsIndex program.now i) }
     requires users { IfSome users.now (λ u. AreUsers program.now m over.now u.items) }
-    requires few { length program.now.classes < 2 ^ 32 }
     requires over_there { method_at program.now m ≡ Some over.now }
     requires under_there { method_at program.now k ≡ Some under.now }
     ensures { result ≡ members.is_pair program.now m k }
 {
-    let Some(index) = index else {
-        return jn_points::is_pair(program, MethodNo(m), MethodNo(k));
+    program.facts();
+    let (Some(index), Some(users)) = (program.index(), users) else {
+        return jn_points::is_pair(program.program(), MethodNo(m), MethodNo(k));
     };
-    let Some(users) = users else {
-        return jn_points::is_pair(program, MethodNo(m), MethodNo(k));
-    };
-    is_pair_of(program, index, users, m, over, k, under)
+    is_pair_of(program.program(), index, users, m, over, k, under)
 }
 
-fn agrees(program: &Program, index: &Option<Index>, over: &Method, under: &Method) -> bool
-    requires { IfSome index.now (λ i. IsIndex program.now i) }
+fn agrees(program: &IndexedProgram, over: &Method, under: &Method) -> bool
     ensures { result ≡ rules.agrees program.now over.now under.now }
 {
     same_bases(over.params.as_slice(), under.params.as_slice())
-        && is_sub(program, index, over.result, under.result)
+        && program.is_sub(over.result, under.result)
         && !under.is_final
         && !(over.is_static || under.is_static)
 }
 
-fn over_static(program: &Program, index: &Option<Index>, over: &Method, under: &Method) -> bool
-    requires { IfSome index.now (λ i. IsIndex program.now i) }
+fn over_static(program: &IndexedProgram, over: &Method, under: &Method) -> bool
     ensures { result ≡ rules.over_static program.now over.now under.now }
 {
     !over.ctor
@@ -126,33 +102,29 @@ fn over_static(program: &Program, index: &Option<Index>, over: &Method, under: &
         && under.is_static
         && !under.is_private
         && !(over.owner.0 == under.owner.0)
-        && is_subclass(program, index, over.owner, under.owner)
+        && is_subclass(program, over.owner, under.owner)
 }
 
-fn hides_well(program: &Program, index: &Option<Index>, over: &Method, under: &Method) -> bool
-    requires { IfSome index.now (λ i. IsIndex program.now i) }
+fn hides_well(program: &IndexedProgram, over: &Method, under: &Method) -> bool
     ensures { result ≡ rules.hides_well program.now over.now under.now }
 {
     over.is_static
         && same_bases(over.params.as_slice(), under.params.as_slice())
-        && is_sub(program, index, over.result, under.result)
+        && program.is_sub(over.result, under.result)
         && !under.is_final
 }
 
 /// Whether the first method doesn't agree with the second, or hides it badly. Names are looked at first.
 #[tactic(auto, using(crate::proofs::Clashing::other_names))]
 fn clashes(
-    program: &Program,
-    index: &Option<Index>,
+    program: &IndexedProgram,
     users: &Option<Vec<u32>>,
     m: u32,
     over: &Method,
     k: u32,
     under: &Method,
 ) -> bool
-    requires index { IfSome index.now (λ i. IsIndex program.now i) }
     requires users { IfSome users.now (λ u. AreUsers program.now m over.now u.items) }
-    requires few { length program.now.classes < 2 ^ 32 }
     requires over_there { method_at program.now m ≡ Some over.now }
     requires under_there { method_at program.now k ≡ Some under.now }
     ensures { result ≡ spec.clashes program.now m over.now k under.now }
@@ -160,30 +132,27 @@ fn clashes(
     if !is_named(under, over.name, over.params.len()) {
         return false;
     }
-    is_pair(program, index, users, m, over, k, under) && !agrees(program, index, over, under)
-        || over_static(program, index, over, under) && !hides_well(program, index, over, under)
+    is_pair(program, users, m, over, k, under) && !agrees(program, over, under)
+        || over_static(program, over, under) && !hides_well(program, over, under)
 }
 
 /// The first method with which this one clashes.
 fn clashing_with(
-    program: &Program,
-    index: &Option<Index>,
+    program: &IndexedProgram,
     users: &Option<Vec<u32>>,
     m: u32,
     over: &Method,
 ) -> Option<Identifier>
-    requires index { IfSome index.now (λ i. IsIndex program.now i) }
     requires users { IfSome users.now (λ u. AreUsers program.now m over.now u.items) }
-    requires few { length program.now.classes < 2 ^ 32 }
-    requires small { length program.now.methods < 2 ^ 32 }
     requires there { method_at program.now m ≡ Some over.now }
     ensures { result
         ≡ option_map spec.method_name
         (spec.first_passing (spec.clashes program.now m over.now) 0 program.now.methods) }
 {
-    let methods = program.methods.as_slice();
+    program.facts();
+    let methods = program.program().methods.as_slice();
     for (k, under) in methods.iter().enumerate() {
-        if clashes(program, index, users, m, over, k as u32, under) {
+        if clashes(program, users, m, over, k as u32, under) {
             return Some(method_name(under));
         }
     }
@@ -193,78 +162,60 @@ fn clashing_with(
 /// T5 of the method of this number.
 fn clashing_at(
     alloc: Global,
-    program: &Program,
-    index: &Option<Index>,
+    program: &IndexedProgram,
     m: u32,
     over: &Method,
 ) -> Result<Option<Identifier>, AllocError>
-    requires index { IfSome index.now (λ i. IsIndex program.now i) }
-    requires few { length program.now.classes < 2 ^ 32 }
-    requires small { length program.now.methods < 2 ^ 32 }
     requires there { method_at program.now m ≡ Some over.now }
     ensures { IfOk result (λ other. other
         ≡ option_map spec.method_name
         (spec.first_passing (spec.clashes program.now m over.now) 0 program.now.methods)) }
 {
-    let users = users_of(alloc, program, index, m, over)?;
-    Ok(clashing_with(program, index, &users, m, over))
+    let users = users_of(alloc, program, m, over)?;
+    Ok(clashing_with(program, &users, m, over))
 }
 
 /// T5: the first method with which the one that is declared there clashes.
 pub(crate) fn clashing(
     alloc: Global,
-    program: &Program,
-    index: &Option<Index>,
+    program: &IndexedProgram,
     span: Span,
 ) -> Result<Option<Identifier>, AllocError>
-    requires index { IfSome index.now (λ i. IsIndex program.now i) }
-    requires few { length program.now.classes < 2 ^ 32 }
-    requires small { length program.now.methods < 2 ^ 32 }
     ensures { IfOk result (λ other. other ≡ spec.clashing program.now span) }
 {
-    let Some(m) = method_there(program.methods.as_slice(), span) else {
+    let Some(m) = method_there(program.program().methods.as_slice(), span) else {
         return Ok(None);
     };
-    let Some(over) = method_at(program, m) else {
+    let Some(over) = method_at(program.program(), m) else {
         return Ok(None);
     };
-    clashing_at(alloc, program, index, m as u32, over)
+    clashing_at(alloc, program, m as u32, over)
 }
 
 /// Whether the class has the method, which is abstract.
-fn has_abstract(
-    program: &Program,
-    index: &Option<Index>,
-    class: ClassNo,
-    m: usize,
-    method: &Method,
-) -> bool
-    requires index { IfSome index.now (λ i. IsIndex program.now i) }
-    requires small { length program.now.methods < 2 ^ 32 }
+fn has_abstract(program: &IndexedProgram, class: ClassNo, m: usize, method: &Method) -> bool
     requires short { length method.now.params < 2 ^ 32 }
     ensures { result ≡ spec.has_abstract program.now class.0 m method.now }
 {
     if !method.is_abstract {
         return false;
     }
-    match method_of(program, index, class, method.name, method.params.len()) {
+    match method_of(program, class, method.name, method.params.len()) {
         None => false,
         Some(found) => found.0 as usize == m,
     }
 }
 
 /// The first abstract method that the class has.
-fn lacking_of(program: &Program, index: &Option<Index>, class: ClassNo) -> Option<Identifier>
-    requires index { IfSome index.now (λ i. IsIndex program.now i) }
-    requires small { length program.now.methods < 2 ^ 32 }
-    requires short { ParamsFit program.now }
+fn lacking_of(program: &IndexedProgram, class: ClassNo) -> Option<Identifier>
     ensures { result
         ≡ option_map spec.method_name
         (spec.first_passing (spec.has_abstract program.now class.0) 0 program.now.methods) }
 {
-    let methods = program.methods.as_slice();
+    program.facts();
+    let methods = program.program().methods.as_slice();
     for (m, method) in methods.iter().enumerate() {
-        if has_abstract(program, index, class, m, method) {
+        if has_abstract(program, class, m, method) {
             return Some(method_name(method));
         }
     }
@@ -272,33 +223,27 @@ fn lacking_of(program: &Program, index: &Option<Index>, class: ClassNo) -> Optio
 }
 
 /// T6: the first abstract method that the class that is declared there has.
-pub(crate) fn lacking(program: &Program, index: &Option<Index>, span: Span) -> Option<Identifier>
-    requires index { IfSome index.now (λ i. IsIndex program.now i) }
-    requires few { length program.now.classes < 2 ^ 32 }
-    requires small { length program.now.methods < 2 ^ 32 }
-    requires short { ParamsFit program.now }
+pub(crate) fn lacking(program: &IndexedProgram, span: Span) -> Option<Identifier>
     ensures { result ≡ spec.lacking program.now span }
 {
-    let c = class_there(program.classes.as_slice(), span)?;
-    lacking_of(program, index, ClassNo(c as u32))
+    let c = class_there(program.program().classes.as_slice(), span)?;
+    lacking_of(program, ClassNo(c as u32))
 }
 
-fn hides(program: &Program, index: &Option<Index>, field: &Field, other: &Field) -> bool
-    requires { IfSome index.now (λ i. IsIndex program.now i) }
+fn hides(program: &IndexedProgram, field: &Field, other: &Field) -> bool
     ensures { result ≡ spec.hides program.now field.now other.now }
 {
     field.name.0 == other.name.0
         && !(field.owner.0 == other.owner.0)
-        && is_subclass(program, index, field.owner, other.owner)
+        && is_subclass(program, field.owner, other.owner)
 }
 
-fn hidden_by(program: &Program, index: &Option<Index>, field: &Field) -> Option<Identifier>
-    requires { IfSome index.now (λ i. IsIndex program.now i) }
+fn hidden_by(program: &IndexedProgram, field: &Field) -> Option<Identifier>
     ensures { result
         ≡ option_map spec.field_name (find (spec.hides program.now field.now) program.now.fields) }
 {
-    for other in program.fields.as_slice() {
-        if hides(program, index, field, other) {
+    for other in program.program().fields.as_slice() {
+        if hides(program, field, other) {
             return Some(field_name(other));
         }
     }
@@ -306,11 +251,10 @@ fn hidden_by(program: &Program, index: &Option<Index>, field: &Field) -> Option<
 }
 
 /// T7: the first field of a supertype with the name of the one that is declared there.
-pub(crate) fn hidden(program: &Program, index: &Option<Index>, span: Span) -> Option<Identifier>
-    requires { IfSome index.now (λ i. IsIndex program.now i) }
+pub(crate) fn hidden(program: &IndexedProgram, span: Span) -> Option<Identifier>
     ensures { result ≡ spec.hidden program.now span }
 {
-    let f = field_there(program.fields.as_slice(), span)?;
-    let field = field_at(program, f)?;
-    hidden_by(program, index, field)
+    let f = field_there(program.program().fields.as_slice(), span)?;
+    let field = field_at(program.program(), f)?;
+    hidden_by(program, field)
 }

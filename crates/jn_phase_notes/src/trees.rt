@@ -4,8 +4,6 @@
 ghost use Rattle.std.specs.Prelude.{◌≡◌, ◌<◌, ◌^◌, ◌++◌, length, map, option_map, IfOk, IfSome};
 ghost use Rattle.jn_places.specs.PlacedView.{placed_file};
 ghost use Rattle.jn_heads.specs.Extract as extract;
-ghost use Rattle.jn_index.specs.Index.{IsIndex};
-ghost use Rattle.jn_index.specs.Sizes.{ParamsFit};
 ghost use Rattle.jn_classtable.specs.Built.{SmallTable};
 ghost use Rattle.jn_classtable.specs.Table.{table};
 ghost use Rattle.jn_note_words.specs.Worded.{text_at};
@@ -31,6 +29,7 @@ use jn_heads::declarations::Declarations;
 use jn_heads::extract::heads;
 use jn_heads::head::ClassHead;
 use jn_index::index::Index;
+use jn_index::indexed::IndexedProgram;
 use jn_note_words::{Note, Notes};
 use jn_points::Program;
 use jn_refused_notes::{Refusal, refusals_of};
@@ -88,24 +87,19 @@ fn first_named(heads: &[ClassHead], program: &Program, span: Span) -> Option<Ide
 fn other_by(
     alloc: Global,
     heads: &[ClassHead],
-    program: &Program,
-    index: &Option<Index>,
+    program: &IndexedProgram,
     span: Span,
     code: Code,
 ) -> Result<Option<Identifier>, AllocError>
-    requires index { IfSome index.now (λ i. IsIndex program.now i) }
-    requires few { length program.now.classes < 2 ^ 32 }
-    requires small { length program.now.methods < 2 ^ 32 }
-    requires short { ParamsFit program.now }
     ensures { IfOk result
         (λ other. other ≡ others.other_by heads.now program.now span code) }
 {
     match code {
-        Code::T1 => Ok(first_named(heads, program, span)),
-        Code::T4 => Ok(first_method(program, span)),
-        Code::T5 => clashing(alloc, program, index, span),
-        Code::T6 => Ok(lacking(program, index, span)),
-        Code::T7 => Ok(hidden(program, index, span)),
+        Code::T1 => Ok(first_named(heads, program.program(), span)),
+        Code::T4 => Ok(first_method(program.program(), span)),
+        Code::T5 => clashing(alloc, program, span),
+        Code::T6 => Ok(lacking(program, span)),
+        Code::T7 => Ok(hidden(program, span)),
         _ => Ok(None),
     }
 }
@@ -247,15 +241,10 @@ fn notes_of_row(
     alloc: Global,
     names: &Names,
     heads: &[ClassHead],
-    program: &Program,
-    index: &Option<Index>,
+    program: &IndexedProgram,
     gathered: &Gathered,
     row: Row,
 ) -> Result<Notes, OutOfMemory>
-    requires index { IfSome index.now (λ i. IsIndex program.now i) }
-    requires few { length program.now.classes < 2 ^ 32 }
-    requires small { length program.now.methods < 2 ^ 32 }
-    requires short { ParamsFit program.now }
     ensures { IfOk result (λ notes. notes
         ≡ spec.notes_by names.now heads.now program.now gathered.now row.span row.code) }
 {
@@ -266,12 +255,12 @@ fn notes_of_row(
         }
         Code::J2 => {
             let named = mention_at(gathered.mentions.as_slice(), row.span);
-            mention_notes(alloc, names, program, named)
+            mention_notes(alloc, names, program.program(), named)
         }
         Code::J5 => cause_notes(alloc, gathered.refusals.as_slice(), row.span),
         Code::J7 => notes_at(alloc, gathered.types.as_slice(), row.span),
         _ => {
-            let found = other_by(alloc, heads, program, index, row.span, row.code)?;
+            let found = other_by(alloc, heads, program, row.span, row.code)?;
             notes_of_other(alloc, names, row.code, elsewhere(row.span, found))
         }
     }
@@ -282,29 +271,24 @@ fn notes_of_rows(
     alloc: Global,
     names: &Names,
     heads: &[ClassHead],
-    program: &Program,
-    index: &Option<Index>,
+    program: &IndexedProgram,
     gathered: &Gathered,
     rows: &[Row],
 ) -> Result<Vec<Notes>, OutOfMemory>
-    requires index { IfSome index.now (λ i. IsIndex program.now i) }
-    requires few { length program.now.classes < 2 ^ 32 }
-    requires small { length program.now.methods < 2 ^ 32 }
-    requires short { ParamsFit program.now }
     ensures { IfOk result (λ notes. notes.items
         ≡ map (λ row. spec.notes_by names.now heads.now program.now gathered.now row.span row.code)
         rows.now) }
 {
     let mut list = Vec::new(alloc);
     for row in rows {
-        let notes = notes_of_row(alloc, names, heads, program, index, gathered, *row)?;
+        let notes = notes_of_row(alloc, names, heads, program, gathered, *row)?;
         put(&mut list, notes)?;
     }
     Ok(list)
 }
 
 /// The notes of rows of small heads.
-#[tactic(auto, using(crate::proofs::Tables::few_classes))]
+#[tactic(auto, using(crate::proofs::Tables::table_is_small))]
 fn notes_of_declared(
     alloc: Global,
     names: &Names,
@@ -319,8 +303,9 @@ fn notes_of_declared(
 {
     let program = table(alloc, declared)?;
     let index = Index::new(alloc, &program)?;
+    let program = IndexedProgram::of(program, index);
     let heads = declared.heads();
-    notes_of_rows(alloc, names, heads, &program, &index, gathered, rows)
+    notes_of_rows(alloc, names, heads, &program, gathered, rows)
 }
 
 /// The notes of rows of files that have these trees and names, row by row. Where a row is J7, workers lower the files to their program.
