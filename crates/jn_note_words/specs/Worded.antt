@@ -1,9 +1,10 @@
 -- The words of a step that is told, and where it stands in the text.
-use Rattle.std.specs.Prelude.{ℕ, Bool, true, false, cond, codes, eqb, List, [], ◌++◌, Option, Some, None, slice_index_or}
+use Rattle.std.specs.Prelude.{ℕ, Bool, true, false, cond, codes, eqb, List, [], ◌++◌, Option, Some, None, slice_get, slice_index_or}
 use Rattle.jn_base.specs.declared.place.Span.{Span}
+use Rattle.jn_points.specs.declared.point.Operand.{Operand}
 use Rattle.jn_points.specs.declared.point.Point.{Point}
 use Rattle.jn_points.specs.declared.point.PointKind.{PointKind}
-use Rattle.jn_points.specs.declared.point.PointKind.TheVariants.{Const, FieldRead, ElemRead, Return}
+use Rattle.jn_points.specs.declared.point.PointKind.TheVariants.{Call, Const, CtorCall, ElemRead, FieldRead, New, Return}
 use Rattle.jn_points.specs.declared.program.Field.{Field}
 use Rattle.jn_points.specs.declared.program.Method.{Method}
 use Rattle.jn_points.specs.declared.program.Program.{Program}
@@ -102,6 +103,31 @@ abbrev pub point_span : Option Point → Span
 point_span None = nowhere
 point_span (Some pt) = pt.span
 
+-- the arguments of a point that calls
+abbrev pub arguments : PointKind → List Operand
+arguments (New dst ctor args) = args
+arguments (CtorCall ctor args own) = args
+arguments (Call dst method receiver direct args) = args
+arguments kind = []
+
+-- where a value stands, or else another place
+abbrev pub operand_span : Option Operand → Span → Span
+operand_span None span = span
+operand_span (Some value) span = value.span
+
+-- where a point passes the argument of this number: the argument, or the point where it has none
+abbrev pub argument_span : ℕ → Option Point → Span
+argument_span i None = nowhere
+argument_span i (Some pt) = operand_span (slice_get (arguments pt.kind) i) pt.span
+
+-- where a slot has its bit from a point: for a parameter the argument that is passed to it, else the point
+abbrev pub sent_span : Option Owner → Option Point → Span
+sent_span None pt = point_span pt
+sent_span (Some (OfField f)) pt = point_span pt
+sent_span (Some (OfParameter m i)) pt = argument_span i pt
+sent_span (Some (OfReceiver m)) pt = point_span pt
+sent_span (Some (OfResult m)) pt = point_span pt
+
 module _ (P : Program) where
   -- how a slot has its bit, by the place from which it has it
   abbrev pub how_words : Option Owner → Place → List ℕ
@@ -134,9 +160,19 @@ module _ (P : Program) where
   owner_span (Some (OfReceiver m)) = method_span (method_at P m)
   owner_span (Some (OfResult m)) = method_span (method_at P m)
 
-  -- where in the text a step's place is: a declaration, for a slot, a method or a body, or else a point
-  abbrev pub place_span : Place → Span
-  place_span (OfSlot k) = owner_span (owner_of P k)
-  place_span (OfMethod m) = method_span (method_at P m)
-  place_span (OfBody b) = method_span (method_in P b)
-  place_span (OfPoint b p) = point_span (point_at P b p)
+  -- where in the text the place is from which a slot of this owner, or else a register, has its bit: a declaration, for a slot, a method or a body, or
+  -- else a point or its argument
+  abbrev pub place_span : Option Owner → Place → Span
+  place_span owner (OfSlot k) = owner_span (owner_of P k)
+  place_span owner (OfMethod m) = method_span (method_at P m)
+  place_span owner (OfBody b) = method_span (method_in P b)
+  place_span owner (OfPoint b p) = sent_span owner (point_at P b p)
+
+  -- whose slot an item is; a register's is nobody's
+  abbrev pub item_owner : Item → Option Owner
+  item_owner (AtSlot k bit) = owner_of P k
+  item_owner (AtRegister b p r bit) = None
+
+  -- where a step's place is
+  abbrev pub step_span : Step → Span
+  step_span step = place_span (item_owner step.item) step.place

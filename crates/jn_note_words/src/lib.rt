@@ -1,6 +1,6 @@
 //! What notes are, and the words and places of the steps of a chain.
 //!
-//! [`find_owners`] says whose each slot is, [`step_words`] what a note says of a step, and [`place_span`] where it stands.
+//! [`find_owners`] says whose each slot is, [`step_words`] what a note says of a step, and [`step_span`] where it stands.
 #![tactic(auto)]
 
 pub mod note;
@@ -10,5 +10,5 @@ pub mod words;
 
 pub use note::{Note, Notes};
 pub use owners::{Owner, find_owners, owner_at};
-pub use spans::place_span;
+pub use spans::step_span;
 pub use words::step_words;

@@ -1,5 +1,5 @@
 //! Where steps stand in the text.
-ghost use Rattle.std.specs.Prelude.{◌≡◌, MatchOption, None, Some};
+ghost use Rattle.std.specs.Prelude.{◌≡◌, MatchOption, None, Some, slice_get};
 ghost use Rattle.jn_points.specs.Lookup.{field_info, method_at, method_in, point_at};
 ghost use Rattle.jn_note_words.specs.Owned.{AreOwners};
 ghost use Rattle.jn_note_words.specs.Worded as spec;
@@ -7,8 +7,8 @@ ghost use Rattle.jn_note_words.specs.Worded as spec;
 use crate::owners::{Owner, owner_at};
 use jn_base::{FieldNo, FileNo, Span};
 use jn_points::lookup::{field_info, method_at, method_in};
-use jn_points::{Point, Program};
-use jn_reasons_law::Place;
+use jn_points::{Operand, Point, PointKind, Program};
+use jn_reasons_law::{Item, Place, Step};
 
 /// A place for what is nowhere in the text.
 const NOWHERE: Span = Span {
@@ -64,6 +64,51 @@ pub fn point_span(program: &Program, body: u32, point: u32) -> Span
     }
 }
 
+/// The arguments of a point that calls.
+fn arguments(kind: &PointKind) -> &[Operand]
+    ensures { result.now ≡ spec.arguments kind.now }
+{
+    match kind {
+        PointKind::New { args, .. } => args.as_slice(),
+        PointKind::CtorCall { args, .. } => args.as_slice(),
+        PointKind::Call { args, .. } => args.as_slice(),
+        _ => &[],
+    }
+}
+
+/// Where the value of this number stands, or else another place.
+fn operand_span(operands: &[Operand], number: usize, span: Span) -> Span
+    ensures { result ≡ spec.operand_span (slice_get operands.now number) span }
+{
+    match operands.get(number) {
+        None => span,
+        Some(value) => value.span,
+    }
+}
+
+/// Where a point passes the argument of this number.
+fn argument_span(program: &Program, body: u32, point: u32, number: usize) -> Span
+    ensures { result ≡ spec.argument_span number (point_at program.now body point) }
+{
+    match point_at(program, body, point) {
+        None => NOWHERE,
+        Some(info) => operand_span(arguments(&info.kind), number, info.span),
+    }
+}
+
+/// Where a slot has its bit from a point.
+fn sent_span(program: &Program, owner: Option<Owner>, body: u32, point: u32) -> Span
+    ensures { result ≡ spec.sent_span owner (point_at program.now body point) }
+{
+    match owner {
+        None => point_span(program, body, point),
+        Some(Owner::OfField(_)) => point_span(program, body, point),
+        Some(Owner::OfParameter(_, number)) => argument_span(program, body, point, number),
+        Some(Owner::OfReceiver(_)) => point_span(program, body, point),
+        Some(Owner::OfResult(_)) => point_span(program, body, point),
+    }
+}
+
 /// Where a slot is declared.
 pub fn owner_span(program: &Program, owner: Option<Owner>) -> Span
     ensures { result ≡ spec.owner_span program.now owner }
@@ -77,15 +122,40 @@ pub fn owner_span(program: &Program, owner: Option<Owner>) -> Span
     }
 }
 
-/// Where a place stands in the text.
-pub fn place_span(program: &Program, owners: &[Option<Owner>], place: Place) -> Span
+/// Where a place stands in the text from which a slot of this owner, or else a register, has its bit.
+fn place_span(
+    program: &Program,
+    owners: &[Option<Owner>],
+    owner: Option<Owner>,
+    place: Place,
+) -> Span
     requires owners { AreOwners program.now owners.now }
-    ensures { result ≡ spec.place_span program.now place }
+    ensures { result ≡ spec.place_span program.now owner place }
 {
     match place {
         Place::OfSlot(slot) => owner_span(program, owner_at(owners, slot)),
         Place::OfMethod(method) => method_span(program, method),
         Place::OfBody(body) => head_span(program, body),
-        Place::OfPoint(body, point) => point_span(program, body, point),
+        Place::OfPoint(body, point) => sent_span(program, owner, body, point),
     }
+}
+
+fn item_owner(program: &Program, owners: &[Option<Owner>], item: Item) -> Option<Owner>
+    requires owners { AreOwners program.now owners.now }
+    ensures { result ≡ spec.item_owner program.now item }
+{
+    let _program = program;
+    match item {
+        Item::AtSlot(slot, _) => owner_at(owners, slot),
+        Item::AtRegister(_, _, _, _) => None,
+    }
+}
+
+/// Where the place of a step stands in the text: for a parameter's slot the argument that is passed to it, else the declaration or the point itself.
+pub fn step_span(program: &Program, owners: &[Option<Owner>], step: Step) -> Span
+    requires owners { AreOwners program.now owners.now }
+    ensures { result ≡ spec.step_span program.now step }
+{
+    let owner = item_owner(program, owners, step.item);
+    place_span(program, owners, owner, step.place)
 }

@@ -15,7 +15,7 @@ use Rattle.jn_notes.specs.Asked.{item_of}
 use Rattle.jn_notes.specs.Spoken.{topic_note, topics_of}
 use Rattle.jn_notes.specs.Unkept.{preceded}
 use Rattle.jn_notes.specs.Voids.{AreVoids, read_in}
-use Rattle.jn_note_words.specs.Worded.{place_span, step_words}
+use Rattle.jn_note_words.specs.Worded.{step_span, step_words}
 
 -- how many steps of a chain are shown at most, and how many declarations that a row speaks of
 abbrev pub most_shown : ℕ
@@ -41,7 +41,7 @@ last_of steps = drop (length steps - 1) steps
 module _ (P : Program) (names : List (List ℕ)) where
   -- a step in words, and where it stands, and whether the chain ends there
   abbrev pub note_of : Bool → Step → Note
-  note_of ends step = record { joined = false; ends = ends; words = step_words P names step; span = place_span P step.place }
+  note_of ends step = record { joined = false; ends = ends; words = step_words P names step; span = step_span P step }
 
   -- of the steps that are told the first 7 before the last one, and that one
   abbrev pub step_notes : List Step → List Note

@@ -24,7 +24,7 @@ use jn_env::FlowTable;
 use jn_index::indexed::IndexedProgram;
 use jn_note_words::note::{Note, Notes};
 use jn_note_words::owners::{Owner, find_owners};
-use jn_note_words::spans::place_span;
+use jn_note_words::spans::step_span;
 use jn_note_words::words::step_words;
 use jn_origins::LeastOrigins;
 use jn_origins::law::{least_tables_are_sized, what_stands_has_a_chain};
@@ -55,7 +55,7 @@ fn note_of(
         joined: false,
         ends,
         words: Seq::of_vec(words),
-        span: place_span(program, owners, step.place),
+        span: step_span(program, owners, step),
     })
 }
 
