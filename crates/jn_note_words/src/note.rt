@@ -11,7 +11,7 @@ pub struct Note {
     pub span: Span,
 }
 
-/// The notes that are shown of a row: at most 8 of the declarations that it speaks of, those of a test that something made void, and at most 8 of where its
+/// The notes that are shown of a row: at most 8 of the declarations that it speaks of, those of a fact that something made void, and at most 8 of where its
 /// qualifier comes from, of which the last is where the chain ends; and how many more there are of the first or else of the last of these. Those that are left
 /// out of a chain stand before its end.
 #[derive(Drop)]

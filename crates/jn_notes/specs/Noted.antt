@@ -47,7 +47,7 @@ module _ (P : Program) (names : List (List ℕ)) where
   abbrev pub step_notes : List Step → List Note
   step_notes steps = map (note_of false) (before_last steps) ++ map (note_of true) (last_of steps)
 
-  -- the notes of what made a test void, and then those of the steps that are told
+  -- the notes of a test or an assignment that something made void, and then those of the steps that are told
   abbrev pub noted : List Note → List Step → Notes
   noted voids steps = record { shown = voids ++ step_notes steps; more = length steps - most_shown }
 

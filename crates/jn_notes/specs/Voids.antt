@@ -1,10 +1,10 @@
--- The notes of a test that something made void: where it was tested that a field isn't null, and what may have changed that since, before the field
--- was read.
+-- The notes of a fact that something made void: where a field was tested or assigned so that it isn't null, and what may have changed that since, before
+-- the field was read.
 use Rattle.std.specs.Prelude.{ℕ, ◌≡◌, Bool, true, false, cond, codes, eqb, not, ◌&&◌, List, [], ◌∷◌, ◌++◌, Option, Some, None, slice_index_or}
 use Rattle.jn_quals.specs.Qualifier.{Qualifier}
 use Rattle.jn_points.specs.declared.point.Point.{Point}
 use Rattle.jn_points.specs.declared.point.PointKind.{PointKind}
-use Rattle.jn_points.specs.declared.point.PointKind.TheVariants.{Call, CtorCall, FieldRead, New}
+use Rattle.jn_points.specs.declared.point.PointKind.TheVariants.{Call, CtorCall, FieldRead, FieldWrite, New}
 use Rattle.jn_points.specs.declared.program.Program.{Program}
 use Rattle.jn_points.specs.Lookup.{field_info, method_in, point_at, static_of}
 use Rattle.jn_env.specs.Keys.{Key}
@@ -47,6 +47,16 @@ is_carried item place = false
 abbrev pub goes_on : Step → Bool
 goes_on x = is_carried x.item x.place
 
+-- how a fact on a field was made: by an assignment to it, or else by a test
+abbrev pub made_by : PointKind → List ℕ
+made_by (FieldWrite object f value) = codes "` was assigned at"
+made_by kind = codes "` was tested at"
+
+-- the same of a point that may be missing
+abbrev pub how_made : Option Point → List ℕ
+how_made None = codes "` was tested at"
+how_made (Some pt) = made_by pt.kind
+
 module _ (P : Program) where
   -- the read by which a null in a register comes from a point
   abbrev pub read_from : Item → Place → Option ReadAt
@@ -68,9 +78,9 @@ module _ (P : Program) where
   abbrev pub front_words : ReadAt → List ℕ
   front_words read = cond (is_this read) (codes "`this.") (codes "the field `")
 
-  -- the words that say of a field where it was tested
-  abbrev pub tested_words : List (List ℕ) → ReadAt → List ℕ
-  tested_words names read = front_words read ++ field_name names (field_info P read.field) ++ codes "` was tested at"
+  -- the words that say of a field where it was tested or assigned
+  abbrev pub made_words : List (List ℕ) → ReadAt → ℕ → List ℕ
+  made_words names read p = front_words read ++ field_name names (field_info P read.field) ++ how_made (point_at P read.body p)
 
 -- the words for what ended a fact on a field: a call, or else an assignment
 abbrev pub ends_by : PointKind → List ℕ
@@ -88,21 +98,21 @@ ended_words (Some pt) = ends_by pt.kind
 abbrev pub key_of : ReadAt → Key
 key_of read = record { reg = read.object; field = read.field }
 
--- where the field was tested, and on the same line what may change it
-abbrev pub tested_note : Program → List (List ℕ) → ReadAt → ℕ → Note
-tested_note P names read p = record { joined = false; ends = false; words = tested_words P names read; span = point_span (point_at P read.body p) }
+-- where the field was tested or assigned, and on the same line what may change it
+abbrev pub made_note : Program → List (List ℕ) → ReadAt → ℕ → Note
+made_note P names read p = record { joined = false; ends = false; words = made_words P names read p; span = point_span (point_at P read.body p) }
 
--- the note of what may have changed the field after the test, which goes on with the note before it
+-- the note of what may have changed the field after that, which goes on with the note before it
 abbrev pub ended_note : Program → ReadAt → ℕ → Note
 ended_note P read p = record { joined = true; ends = false; words = ended_words (point_at P read.body p); span = point_span (point_at P read.body p) }
 
 module _ (P : Program) (names : List (List ℕ)) where
-  -- the two notes of a test and of what made it void, where there is such a pair
+  -- the two notes of a test or an assignment and of what made it void, where there is such a pair
   abbrev pub void_notes : ReadAt → Option Voided → List Note
   void_notes read None = []
-  void_notes read (Some v) = tested_note P names read v.tested.0 ∷ ended_note P read v.ended.0 ∷ []
+  void_notes read (Some v) = made_note P names read v.made.0 ∷ ended_note P read v.ended.0 ∷ []
 
-  -- of the first pair of a test and what made it void
+  -- of the first pair
   abbrev pub AreVoids : List Qualifier → List Table → Option ReadAt → List Note → Type 0
   AreVoids s tables None notes = notes ≡ []
   AreVoids s tables (Some read) notes = (found : Option Voided) × IsFound P s read.body (slice_index_or tables read.body []) (key_of read) read.point found × (notes ≡ void_notes read found)

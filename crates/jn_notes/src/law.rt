@@ -15,7 +15,7 @@ use jn_reasons_law::law::first_chains_are_unique;
 use jn_tables_law::law::rounds_give_the_least_table;
 use jn_voided::law::first_pairs_are_unique;
 
-/// Rows have one list of notes: the least tables are one, the first chain is one, and so is the first pair of a test and what made it void.
+/// Rows have one list of notes: the least tables are one, the first chain is one, and so is the first pair of what made a fact and what made it void.
 pub fn rows_have_one_list_of_notes()
     ensures { (P : Program) (names : List (List ℕ)) (s : List Qualifier) (rows : List Row)
         (one other : List Notes)

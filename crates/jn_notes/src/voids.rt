@@ -1,4 +1,4 @@
-//! The notes of a test that something made void.
+//! The notes of a test or an assignment that something made void.
 ghost use Rattle.std.specs.Prelude.{◌≡◌, ◌<◌, [], length, IfOk, None, Some, slice_index_or};
 ghost use Rattle.jn_points.specs.Lookup.{field_info, method_in, point_at, static_of};
 ghost use Rattle.jn_origins.specs.Standing.{AreSized};
@@ -130,18 +130,39 @@ fn front_words(program: &Program, read: ReadAt) -> &'static str
     }
 }
 
-/// Where it was tested.
-fn tested_words(
+fn made_by(kind: &PointKind) -> &'static str
+    ensures { result.now ≡ spec.made_by kind.now }
+{
+    match kind {
+        PointKind::FieldWrite { .. } => "` was assigned at",
+        _ => "` was tested at",
+    }
+}
+
+/// How a point made it known.
+fn how_made(program: &Program, body: u32, point: u32) -> &'static str
+    ensures { result.now ≡ spec.how_made (point_at program.now body point) }
+{
+    match point_at(program, body, point) {
+        None => "` was tested at",
+        Some(info) => made_by(&info.kind),
+    }
+}
+
+/// Where it was tested or assigned.
+fn made_words(
     alloc: Global,
     program: &Program,
     names: &Names,
     read: ReadAt,
+    made: PointNo,
 ) -> Result<Vec<u8>, AllocError>
-    ensures { IfOk result (λ words. words.items ≡ spec.tested_words program.now names.now read) }
+    ensures { IfOk result
+        (λ words. words.items ≡ spec.made_words program.now names.now read made.0) }
 {
     let mut words = Vec::from_slice(alloc, front_words(program, read).as_bytes())?;
     add(&mut words, field_name(program, names, read.field))?;
-    add(&mut words, "` was tested at")?;
+    add(&mut words, how_made(program, read.body, made.0))?;
     Ok(words)
 }
 
@@ -166,21 +187,21 @@ fn ended_words(program: &Program, body: u32, point: u32) -> &'static str
     }
 }
 
-fn tested_note(
+fn made_note(
     alloc: Global,
     program: &Program,
     names: &Names,
     read: ReadAt,
-    tested: PointNo,
+    made: PointNo,
 ) -> Result<Note, AllocError>
-    ensures { IfOk result (λ note. note ≡ spec.tested_note program.now names.now read tested.0) }
+    ensures { IfOk result (λ note. note ≡ spec.made_note program.now names.now read made.0) }
 {
-    let words = tested_words(alloc, program, names, read)?;
+    let words = made_words(alloc, program, names, read, made)?;
     Ok(Note {
         joined: false,
         ends: false,
         words: Seq::of_vec(words),
-        span: point_span(program, read.body, tested.0),
+        span: point_span(program, read.body, made.0),
     })
 }
 
@@ -215,7 +236,7 @@ fn pair_notes(
     let mut notes = Vec::new(alloc);
     put(
         &mut notes,
-        tested_note(alloc, program, names, read, pair.tested)?,
+        made_note(alloc, program, names, read, pair.made)?,
     )?;
     put(&mut notes, ended_note(alloc, program, read, pair.ended)?)?;
     Ok(notes)
@@ -238,7 +259,7 @@ fn void_notes(
     }
 }
 
-/// The first pair of a test of the field and what made it void before the read.
+/// The first pair of a test of the field, or an assignment to it, and what made it void before the read.
 fn find_voided(
     alloc: Global,
     program: &Program,
@@ -278,8 +299,8 @@ fn voids_of(
     Ok(void_notes(alloc, program, names, read, found)?)
 }
 
-/// The notes of what made a test void, before the read of a field by which the steps of a chain leave its first registers; none where there is no such
-/// read, or no such test.
+/// The notes of what made a test or an assignment void, before the read of a field by which the steps of a chain leave its first registers; none where
+/// there is no such read, or nothing made it known there that the field isn't null.
 ///
 /// # Errors
 /// No memory was found.

@@ -1,6 +1,6 @@
--- A solution has for each point the least source at which the fact turned.
+-- A solution has for each point the least source since which the fact is as wanted.
 use Rattle.std.proofs.Common.{◌≡◌, ℕ, zero, suc, ◌+◌, ◌<◌, ◌≤◌, ◌⊎◌, Bool, true, false, cond, ltb, inl, inr, ⊎_elim, List, [], ◌∷◌, ◌++◌, length, Option, Some, None, refl, sym, ap, ◌∙◌, subst, arith}
-use Rattle.std.specs.Prelude.{◌&&◌, flat_map, not}
+use Rattle.std.specs.Prelude.{◌&&◌, flat_map}
 use Rattle.std.proofs.lemmas.Bool.{lt-ltb, ltb-false}
 use Rattle.jn_dataflow.specs.Problem.{IsAmong, slot_at}
 use Rattle.jn_dataflow.specs.Solution.{Arises, entered, followed, joined, Absorbs, Solves}
@@ -18,18 +18,9 @@ wanted_is true k e = e
 wanted_is false true e = absurd cc
 wanted_is false false e = refl
 
-wanted_not : (w k : Bool) → as_wanted w k ≡ false → k ≡ not w
-wanted_not true k e = e
-wanted_not false true e = refl
-wanted_not false false e = absurd cc
-
 as_itself : (w : Bool) → as_wanted w w ≡ true
 as_itself true = refl
 as_itself false = refl
-
-as_other : (w : Bool) → as_wanted w (not w) ≡ false
-as_other true = refl
-as_other false = refl
 
 both_true : (x y : Bool) → (x && y) ≡ true → (x ≡ true) × (y ≡ true)
 both_true true y e = (refl, e)
@@ -74,22 +65,15 @@ at_most_less None m k h le = h
 at_most_less (Some x) m k h le = omega (arith, h, le)
 
 module _ (n : ℕ) (at : ℕ → Passed) (source : ℕ → Bool) (wanted : Bool) where
-  -- ---- what comes to a point is a source at which the fact turned
+  -- ---- what comes to a point is a source since which the fact is as wanted
 
-  abbrev Turned : ℕ → ℕ → Type 0
-  Turned from p = (source from ≡ true) × Since at wanted from p
-
-  -- what is handed on came to the point, or is the point itself
-  from_handed : (q : ℕ) (known : Option Bool) (f : Option ℕ) (k : ℕ) → handed source wanted q known f ≡ Some k → (f ≡ Some k) ⊎ ((known ≡ Some (not wanted)) × (source q ≡ true) × (q ≡ k))
-  from_handed q None f k e = absurd cc
-  from_handed q (Some known) f k e = by (as_wanted wanted known) refl e
+  -- what is handed on is the point itself, a source, or came to the point, which is none
+  from_handed : (q : ℕ) (f : Option ℕ) (k : ℕ) → handed source q f ≡ Some k → ((source q ≡ true) × (q ≡ k)) ⊎ ((source q ≡ false) × (f ≡ Some k))
+  from_handed q f k e = by (source q) refl e
     where
-      by : (c : Bool) → as_wanted wanted known ≡ c → cond c f (cond (source q) (Some q) None) ≡ Some k → (f ≡ Some k) ⊎ ((Some known ≡ Some (not wanted)) × (source q ≡ true) × (q ≡ k))
-      by true is h = inl h
-      by false is h =
-          let two = some_if (source q) (Some q) k h in
-          let own : Some q ≡ Some k = two.1 in
-          inr (ap Some (wanted_not wanted known is), two.0, cc)
+      by : (c : Bool) → source q ≡ c → cond c (Some q) f ≡ Some k → ((source q ≡ true) × (q ≡ k)) ⊎ ((source q ≡ false) × (f ≡ Some k))
+      by true is h = let own : Some q ≡ Some k = h in inl (is, cc)
+      by false is h = inr (is, h)
 
   from_arriving : (known : Bool) (there : Option Bool) (f : Option ℕ) (k : ℕ) → arriving wanted known there f ≡ Some k → (known ≡ wanted) × (there ≡ Some wanted) × (f ≡ Some k)
   from_arriving known None f k e = absurd cc
@@ -101,17 +85,17 @@ module _ (n : ℕ) (at : ℕ → Passed) (source : ℕ → Bool) (wanted : Bool)
   way_is : (way : Way) (p : ℕ) → p ≡ way.to → way.known ≡ wanted → way ≡ record { to = p; known = wanted }
   way_is way p e f = subst (λ x. way ≡ record { to = x; known = wanted }) (sym e) (subst (λ x. way ≡ record { to = way.to; known = x }) f refl)
 
-  over_way : (q p : ℕ) (f e : Option ℕ) (k : ℕ) → e ≡ Some k → (f ≡ Some k → Turned k q) → Along n at wanted (handed source wanted q (at q).known f) (at q).ways (p, e) → Turned k p
+  over_way : (q p : ℕ) (f e : Option ℕ) (k : ℕ) → e ≡ Some k → (f ≡ Some k → Since at source wanted k q) → Along n at wanted (handed source q f) (at q).ways (p, e) → Since at source wanted k p
   over_way q p f e k is before way =
-      let went = from_arriving way.way.known (at way.way.to).known (handed source wanted q (at q).known f) k (sym way.carried ∙ is) in
+      let went = from_arriving way.way.known (at way.way.to).known (handed source q f) k (sym way.carried ∙ is) in
       let edge : IsAmong (record { to = p; known = wanted }) (at q).ways = subst (λ w. IsAmong w (at q).ways) (way_is way.way p way.target went.0) way.among in
       let there : (at p).known ≡ Some wanted = subst (λ x. (at x).known ≡ Some wanted) (sym way.target) went.1 in
       ⊎_elim
-      (λ h. let old = before h in (old.0, kept q p old.1 edge there))
-      (λ h. subst (λ x. Turned x p) h.2 (h.1, turned p h.0 edge there))
-      (from_handed q (at q).known f k went.2)
+      (λ h. subst (λ x. Since at source wanted x p) h.1 (turned p h.0 edge there))
+      (λ h. kept q p (before h.1) h.0 edge there)
+      (from_handed q f k went.2)
 
-  arises_turned : (p : ℕ) (e : Option ℕ) → Arises (turning n at source wanted) p e → (k : ℕ) → e ≡ Some k → Turned k p
+  arises_turned : (p : ℕ) (e : Option ℕ) → Arises (turning n at source wanted) p e → (k : ℕ) → e ≡ Some k → Since at source wanted k p
   arises_turned p e entered k is = absurd cc
   arises_turned p e (followed q f p' e' before m) k is =
       ⊎_elim
@@ -122,8 +106,9 @@ module _ (n : ℕ) (at : ℕ → Passed) (source : ℕ → Bool) (wanted : Bool)
 
   -- ---- each source comes to the points up to which the fact has been so
 
-  module _ (turns : List (Option (Option ℕ))) (s : Solves (turning n at source wanted) turns) (inside : (p : ℕ) (k : Bool) → (at p).known ≡ Some k → p < n) where
-    slot_turned : (p k : ℕ) (o : Option (Option ℕ)) → slot_at turns p ≡ o → turn_in o ≡ Some k → Turned k p
+  module _ (turns : List (Option (Option ℕ))) (s : Solves (turning n at source wanted) turns) (inside : (p : ℕ) (k : Bool) → (at p).known ≡ Some k → p < n)
+      (goes : (p : ℕ) (w : Way) → IsAmong w (at p).ways → p < n) where
+    slot_turned : (p k : ℕ) (o : Option (Option ℕ)) → slot_at turns p ≡ o → turn_in o ≡ Some k → Since at source wanted k p
     slot_turned p k None is e = absurd cc
     slot_turned p k (Some f) is e = arises_turned p f (s.arises p f is) k e
 
@@ -144,7 +129,7 @@ module _ (n : ℕ) (at : ℕ → Passed) (source : ℕ → Bool) (wanted : Bool)
         let before = comes p (omega (arith, lt)) in
         let le : p + 1 < n = omega (arith, lt) in
         let next : p + 1 ≡ suc p = omega arith in
-        let edge = among_left (p + 1, None) (handed_to n (p + 1) None) (flat_map (along n at wanted (handed source wanted p (at p).known before.from)) (at p).ways) (next_there p le) in
+        let edge = among_left (p + 1, None) (handed_to n (p + 1) None) (flat_map (along n at wanted (handed source p before.from)) (at p).ways) (next_there p le) in
         subst (λ x. Come x) next (come_by (p + 1) None (slot_at turns (p + 1)) refl (s.edges p before.from before.is (p + 1, None) edge))
 
     along_there : (from : Option ℕ) (p : ℕ) (ways : List Way) → p < n → (at p).known ≡ Some wanted → IsAmong (record { to = p; known = wanted }) ways → IsAmong (p, from) (flat_map (along n at wanted from) ways)
@@ -159,9 +144,9 @@ module _ (n : ℕ) (at : ℕ → Passed) (source : ℕ → Bool) (wanted : Bool)
     along_there from p (w ∷ ws) lt there (inr m) = among_right (p, from) (along n at wanted from w) (flat_map (along n at wanted from) ws) (along_there from p ws lt there m)
 
     -- what a point hands on is at the target of a way, or less
-    handed_on : (q p k : ℕ) (f : Option ℕ) → slot_at turns q ≡ Some f → handed source wanted q (at q).known f ≡ Some k → IsAmong (record { to = p; known = wanted }) (at q).ways → (at p).known ≡ Some wanted → IsAtMost (turn_at turns p) k
+    handed_on : (q p k : ℕ) (f : Option ℕ) → slot_at turns q ≡ Some f → handed source q f ≡ Some k → IsAmong (record { to = p; known = wanted }) (at q).ways → (at p).known ≡ Some wanted → IsAtMost (turn_at turns p) k
     handed_on q p k f is hands m there =
-        let from = handed source wanted q (at q).known f in
+        let from = handed source q f in
         let edge = among_right (p, from) (handed_to n (q + 1) None) (flat_map (along n at wanted from) (at q).ways) (along_there from p (at q).ways (inside p wanted there) there m) in
         let takes : Absorbs (turning n at source wanted) (slot_at turns p) (Some k) = subst (λ z. Absorbs (turning n at source wanted) (slot_at turns p) z) hands (s.edges q f is (p, from) edge) in
         by (slot_at turns p) takes
@@ -170,15 +155,11 @@ module _ (n : ℕ) (at : ℕ → Passed) (source : ℕ → Bool) (wanted : Bool)
         by None h = absurd h
         by (Some x) h = least_no_greater x k h
 
-    hands_itself : (q : ℕ) (f : Option ℕ) → (at q).known ≡ Some (not wanted) → source q ≡ true → handed source wanted q (at q).known f ≡ Some q
-    hands_itself q f is on = subst (λ o. handed source wanted q o f ≡ Some q) (sym is) (subst (λ c. cond c f (cond (source q) (Some q) None) ≡ Some q) (sym (as_other wanted)) (subst (λ c. cond c (Some q) None ≡ Some q) (sym on) refl))
+    hands_itself : (q : ℕ) (f : Option ℕ) → source q ≡ true → handed source q f ≡ Some q
+    hands_itself q f on = subst (λ c. cond c (Some q) f ≡ Some q) (sym on) refl
 
-    hands_on : (q k : ℕ) (f : Option ℕ) → (at q).known ≡ Some wanted → f ≡ Some k → handed source wanted q (at q).known f ≡ Some k
-    hands_on q k f is e = subst (λ o. handed source wanted q o f ≡ Some k) (sym is) (subst (λ c. cond c f (cond (source q) (Some q) None) ≡ Some k) (sym (as_itself wanted)) e)
-
-    since_known : (k q : ℕ) → Since at wanted k q → (at q).known ≡ Some wanted
-    since_known k q (turned p before m there) = there
-    since_known k q (kept r p before m there) = there
+    hands_on : (q k : ℕ) (f : Option ℕ) → source q ≡ false → f ≡ Some k → handed source q f ≡ Some k
+    hands_on q k f off e = subst (λ c. cond c (Some q) f ≡ Some k) (sym off) e
 
     pub record Lower (q k : ℕ) : Type 0 where
       pub from : ℕ
@@ -190,18 +171,18 @@ module _ (n : ℕ) (at : ℕ → Passed) (source : ℕ → Bool) (wanted : Bool)
     lower_by q k (Some None) is h = absurd h
     lower_by q k (Some (Some m)) is h = record { from = m; is = is; le = h }
 
-    since_first : (k p : ℕ) → source k ≡ true → Since at wanted k p → IsAtMost (turn_at turns p) k
-    since_first k p on (turned p' before m there) =
-        let come = comes k (inside k (not wanted) before) in
-        handed_on k p k come.from come.is (hands_itself k come.from before on) m there
-    since_first k p on (kept q p' before m there) =
-        let low = lower_by q k (slot_at turns q) refl (since_first k q on before) in
-        at_most_less (turn_at turns p) low.from k (handed_on q p low.from (Some low.from) low.is (hands_on q low.from (Some low.from) (since_known k q before) refl) m there) low.le
+    since_first : (k p : ℕ) → Since at source wanted k p → IsAtMost (turn_at turns p) k
+    since_first k p (turned p' on m there) =
+        let come = comes k (goes k (record { to = p; known = wanted }) m) in
+        handed_on k p k come.from come.is (hands_itself k come.from on) m there
+    since_first k p (kept q p' before off m there) =
+        let low = lower_by q k (slot_at turns q) refl (since_first k q before) in
+        at_most_less (turn_at turns p) low.from k (handed_on q p low.from (Some low.from) low.is (hands_on q low.from (Some low.from) off refl) m there) low.le
 
     pub solution_tells_turns : TellsTurns at source wanted turns
     solution_tells_turns = record {
       is = λ p from e. slot_turned p from (slot_at turns p) refl e;
-      first = λ from p on h. since_first from p on h;
+      first = λ from p h. since_first from p h;
     }
 
 -- ---- of lists
@@ -211,5 +192,10 @@ passed_inside [] p k e = absurd cc
 passed_inside (x ∷ course) zero k e = omega arith
 passed_inside (x ∷ course) (suc p) k e = let lt = passed_inside course p k e in omega (arith, lt)
 
+ways_inside : (course : List Passed) (p : ℕ) (w : Way) → IsAmong w (passed_in course p).ways → p < length course
+ways_inside [] p w m = absurd m
+ways_inside (x ∷ course) zero w m = omega arith
+ways_inside (x ∷ course) (suc p) w m = let lt = ways_inside course p w m in omega (arith, lt)
+
 pub tells_by : (course : List Passed) (sources : List Bool) (wanted : Bool) (turns : List (Option (Option ℕ))) → Solves (turning (length course) (passed_in course) (is_in sources) wanted) turns → TellsTurns (passed_in course) (is_in sources) wanted turns
-tells_by course sources wanted turns s = solution_tells_turns (length course) (passed_in course) (is_in sources) wanted turns s (passed_inside course)
+tells_by course sources wanted turns s = solution_tells_turns (length course) (passed_in course) (is_in sources) wanted turns s (passed_inside course) (ways_inside course)

@@ -6,7 +6,7 @@ use Rattle.jn_points.specs.declared.program.Program.{Program}
 use Rattle.jn_env.specs.Keys.{Key}
 use Rattle.jn_env.specs.Order.{Table}
 use Rattle.jn_voided.specs.declared.course.Passed.{Passed}
-use Rattle.jn_voided.specs.Voided.{course, tests}
+use Rattle.jn_voided.specs.Voided.{course, makes}
 
 abbrev pub not_passed : Passed
 not_passed = record { known = None; ways = [] }
@@ -17,9 +17,9 @@ passed_in course p = slice_index_or course p not_passed
 abbrev pub is_in : List Bool → ℕ → Bool
 is_in marks p = slice_index_or marks p false
 
--- the points that test the field
-abbrev pub AreTests : Key → List Point → List Bool → Type 0
-AreTests k points marks = (p : ℕ) → is_in marks p ≡ tests k (slice_get points p)
+-- the points that test the field or write it
+abbrev pub AreMakers : Key → List Point → List Bool → Type 0
+AreMakers k points marks = (p : ℕ) → is_in marks p ≡ makes k (slice_get points p)
 
 -- the fact's course, point by point
 abbrev pub IsCourse : Program → List Qualifier → ℕ → Table → Key → List Passed → Type 0

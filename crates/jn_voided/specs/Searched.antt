@@ -2,22 +2,21 @@
 use Rattle.std.specs.Prelude.{ℕ, ◌≡◌, ◌<◌, ◌≤◌, ◌⊎◌, Bool, true, false, Option, Some, None}
 use Rattle.jn_voided.specs.declared.course.Passed.{Passed}
 use Rattle.jn_voided.specs.declared.search.Voided.{Voided}
-use Rattle.jn_voided.specs.Voided.{Since}
+use Rattle.jn_voided.specs.Voided.{Since, is_known}
 
-module _ (at : ℕ → Passed) (test : ℕ → Bool) where
-  pub record IsPair (read tested ended : ℕ) : Type 0 where
-    pub test_there : test tested ≡ true
-    pub known : Since at true tested ended
-    pub unknown : Since at false ended read
+module _ (at : ℕ → Passed) (maker : ℕ → Bool) where
+  pub record IsPair (read made ended : ℕ) : Type 0 where
+    pub known : Since at maker true made ended
+    pub unknown : Since at (λ p. is_known (at p).known) false ended read
 
-  pub record IsFirstPair (read tested ended : ℕ) : Type 0 where
-    pub is : IsPair read tested ended
-    pub first : (other end : ℕ) → IsPair read other end → (ended < end) ⊎ ((ended ≡ end) × (tested ≤ other))
+  pub record IsFirstPair (read made ended : ℕ) : Type 0 where
+    pub is : IsPair read made ended
+    pub first : (other end : ℕ) → IsPair read other end → (ended < end) ⊎ ((ended ≡ end) × (made ≤ other))
 
   abbrev pub IsFoundBy : ℕ → Option Voided → Type 0
-  IsFoundBy read None = (tested ended : ℕ) → IsPair read tested ended → ⊥
-  IsFoundBy read (Some v) = IsFirstPair read v.tested.0 v.ended.0
+  IsFoundBy read None = (made ended : ℕ) → IsPair read made ended → ⊥
+  IsFoundBy read (Some v) = IsFirstPair read v.made.0 v.ended.0
 
 abbrev pub pair : Option ℕ → ℕ → Option Voided
 pair None ended = None
-pair (Some tested) ended = Some (record { tested = record { 0 = tested }; ended = record { 0 = ended } })
+pair (Some made) ended = Some (record { made = record { 0 = made }; ended = record { 0 = ended } })

@@ -1,5 +1,5 @@
--- Where a fact turned, as a dataflow problem: what comes to a point is the least source at which the fact turned to what is wanted and since which it has
--- been so.
+-- Where a fact turned, as a dataflow problem: what comes to a point is the least source that is the last on a way there, and since which the fact is as
+-- wanted.
 use Rattle.std.specs.Prelude.{ℕ, ◌+◌, ◌-◌, ◌≡◌, ◌≤◌, Bool, true, false, not, ◌&&◌, cond, ltb, List, [], ◌∷◌, ◌++◌, flat_map, Option, Some, None}
 use Rattle.jn_dataflow.specs.Problem.{Problem, slot_at}
 use Rattle.jn_voided.specs.declared.course.Passed.{Passed}
@@ -28,14 +28,9 @@ is_below n (Some x) = ltb x n
 abbrev pub handed_to : ℕ → ℕ → Option ℕ → List (ℕ × Option ℕ)
 handed_to n p from = cond (ltb p n) ((p, from) ∷ []) []
 
--- the point itself, where it is a source
-abbrev pub itself : (ℕ → Bool) → ℕ → Option ℕ
-itself source p = cond (source p) (Some p) None
-
--- what a point hands on: what came to it where the fact is as wanted, else itself where a source may turn it
-abbrev pub handed : (ℕ → Bool) → Bool → ℕ → Option Bool → Option ℕ → Option ℕ
-handed source wanted p None from = None
-handed source wanted p (Some known) from = cond (as_wanted wanted known) from (itself source p)
+-- what a point hands on: itself where it is a source, else what came to it
+abbrev pub handed : (ℕ → Bool) → ℕ → Option ℕ → Option ℕ
+handed source p from = cond (source p) (Some p) from
 
 -- what comes along an edge after whose point, and before whose target, the fact is as wanted
 abbrev pub arriving : Bool → Bool → Option Bool → Option ℕ → Option ℕ
@@ -47,7 +42,7 @@ along n at wanted from way = handed_to n way.to (arriving wanted way.known (at w
 
 -- and nothing is handed to the next point, so that each is come to
 abbrev pub turning_edges : ℕ → (ℕ → Passed) → (ℕ → Bool) → Bool → ℕ → Option ℕ → List (ℕ × Option ℕ)
-turning_edges n at source wanted p from = handed_to n (p + 1) None ++ flat_map (along n at wanted (handed source wanted p (at p).known from)) (at p).ways
+turning_edges n at source wanted p from = handed_to n (p + 1) None ++ flat_map (along n at wanted (handed source p from)) (at p).ways
 
 abbrev pub turning : ℕ → (ℕ → Passed) → (ℕ → Bool) → Bool → Problem (Option ℕ)
 turning n at source wanted = record {
@@ -73,7 +68,7 @@ abbrev pub IsAtMost : Option ℕ → ℕ → Type 0
 IsAtMost None k = ⊥
 IsAtMost (Some m) k = m ≤ k
 
--- the least source at which the fact turned for a point, and none where there is none
+-- the least source that is the last on a way to a point, and none where there is none
 pub record TellsTurns (at : ℕ → Passed) (source : ℕ → Bool) (wanted : Bool) (turns : List (Option (Option ℕ))) : Type 0 where
-  pub is : (p from : ℕ) → turn_at turns p ≡ Some from → (source from ≡ true) × Since at wanted from p
-  pub first : (from p : ℕ) → source from ≡ true → Since at wanted from p → IsAtMost (turn_at turns p) from
+  pub is : (p from : ℕ) → turn_at turns p ≡ Some from → Since at source wanted from p
+  pub first : (from p : ℕ) → Since at source wanted from p → IsAtMost (turn_at turns p) from

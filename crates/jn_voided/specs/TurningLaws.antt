@@ -172,12 +172,12 @@ module _ (n : ℕ) (at : ℕ → Passed) (source : ℕ → Bool) (wanted : Bool)
   next_by p x true is (inr m) = absurd m
   next_by p x false is m = absurd m
 
-  pub edge_cases : (p : ℕ) (from : Option ℕ) (x : ℕ × Option ℕ) → IsAmong x (turning_edges n at source wanted p from) → Next n p x ⊎ Along n at wanted (handed source wanted p (at p).known from) (at p).ways x
+  pub edge_cases : (p : ℕ) (from : Option ℕ) (x : ℕ × Option ℕ) → IsAmong x (turning_edges n at source wanted p from) → Next n p x ⊎ Along n at wanted (handed source p from) (at p).ways x
   edge_cases p from x m =
       ⊎_elim
       (λ h. inl (next_by p x (ltb (p + 1) n) refl h))
-      (λ h. inr (along_one (handed source wanted p (at p).known from) (at p).ways x h))
-      (among_cases x (handed_to n (p + 1) None) (flat_map (along n at wanted (handed source wanted p (at p).known from)) (at p).ways) m)
+      (λ h. inr (along_one (handed source p from) (at p).ways x h))
+      (among_cases x (handed_to n (p + 1) None) (flat_map (along n at wanted (handed source p from)) (at p).ways) m)
 
   below_if : (c : Bool) (from : Option ℕ) → IsTrue (is_below n from) → IsTrue (is_below n (cond c from None))
   below_if true from v = v
@@ -187,23 +187,18 @@ module _ (n : ℕ) (at : ℕ → Passed) (source : ℕ → Bool) (wanted : Bool)
   below_arriving known None from v = refl
   below_arriving known (Some there) from v = below_if (as_wanted wanted known && as_wanted wanted there) from v
 
-  below_own : (p : ℕ) (c : Bool) → p < n → IsTrue (is_below n (cond c (Some p) None))
-  below_own p true lt = to_true (ltb p n) (lt-ltb p n lt)
-  below_own p false lt = refl
+  below_either : (p : ℕ) (c : Bool) (from : Option ℕ) → p < n → IsTrue (is_below n from) → IsTrue (is_below n (cond c (Some p) from))
+  below_either p true from lt v = to_true (ltb p n) (lt-ltb p n lt)
+  below_either p false from lt v = v
 
-  below_either : (p : ℕ) (c : Bool) (from own : Option ℕ) → IsTrue (is_below n from) → IsTrue (is_below n own) → IsTrue (is_below n (cond c from own))
-  below_either p true from own v w = v
-  below_either p false from own v w = w
-
-  below_handed : (p : ℕ) (known : Option Bool) (from : Option ℕ) → p < n → IsTrue (is_below n from) → IsTrue (is_below n (handed source wanted p known from))
-  below_handed p None from lt v = refl
-  below_handed p (Some known) from lt v = below_either p (as_wanted wanted known) from (cond (source p) (Some p) None) v (below_own p (source p) lt)
+  below_handed : (p : ℕ) (from : Option ℕ) → p < n → IsTrue (is_below n from) → IsTrue (is_below n (handed source p from))
+  below_handed p from lt v = below_either p (source p) from lt v
 
   below_edge : (p : ℕ) (from : Option ℕ) (x : ℕ × Option ℕ) → p < n → IsTrue (is_below n from) → IsAmong x (turning_edges n at source wanted p from) → IsTrue (is_below n x.1)
   below_edge p from x lt v m =
       ⊎_elim
       (λ h. subst (λ z. IsTrue (is_below n z)) (sym h.nothing) refl)
-      (λ h. subst (λ z. IsTrue (is_below n z)) (sym h.carried) (below_arriving h.way.known (at h.way.to).known (handed source wanted p (at p).known from) (below_handed p (at p).known from lt v)))
+      (λ h. subst (λ z. IsTrue (is_below n z)) (sym h.carried) (below_arriving h.way.known (at h.way.to).known (handed source p from) (below_handed p from lt v)))
       (edge_cases p from x m)
 
   pub turning_lawful : IsLawful (turning n at source wanted)

@@ -8,10 +8,10 @@ use jn_base::OutOfMemory;
 use jn_dataflow::Dataflow;
 use std::alloc::{AllocError, Global};
 
-/// What is handed along an edge: its target, and the least source at which the fact turned, if it did.
+/// What is handed along an edge: its target, and the least source since which the fact is as wanted, if it is.
 type Handed = (u32, Option<u32>);
 
-/// The least source at which the fact turned to what is wanted, known or not, and since which it has been so.
+/// The least source that is the last on a way to a point, and since which the fact is as wanted, known or not.
 #[derive(Drop)]
 pub(crate) struct Turning<'a> {
     course: &'a [Passed],
@@ -61,36 +61,14 @@ fn is_source(sources: &[bool], at: usize) -> bool
     }
 }
 
-/// The point itself, where it is a source.
-fn itself(sources: &[bool], at: u32) -> Option<u32>
-    ensures { result ≡ spec.itself (is_in sources.now) at }
+/// What a point hands on: itself, where it is a source.
+fn handed(sources: &[bool], at: u32, from: Option<u32>) -> Option<u32>
+    ensures { result ≡ spec.handed (is_in sources.now) at from }
 {
     if is_source(sources, at as usize) {
         Some(at)
     } else {
-        None
-    }
-}
-
-/// What a point hands on.
-fn handed(
-    sources: &[bool],
-    wanted: bool,
-    at: u32,
-    known: Option<bool>,
-    from: Option<u32>,
-) -> Option<u32>
-    ensures { result ≡ spec.handed (is_in sources.now) wanted at known from }
-{
-    match known {
-        None => None,
-        Some(known) => {
-            if as_wanted(wanted, known) {
-                from
-            } else {
-                itself(sources, at)
-            }
-        }
+        from
     }
 }
 
@@ -173,7 +151,7 @@ fn edges_of(
     if at + 1 < course.len() {
         push_handed(&mut list, course.len(), (at + 1) as u32, None)?;
     }
-    let handed = handed(sources, wanted, at as u32, passed.known, from);
+    let handed = handed(sources, at as u32, from);
     push_ways(&mut list, course, wanted, handed, passed.ways.as_slice())?;
     Ok(list)
 }

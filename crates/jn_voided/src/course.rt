@@ -2,9 +2,10 @@
 ghost use Rattle.std.specs.Prelude.{◌≡◌, ◌<◌, ◌^◌, ◌+◌, ◌++◌, ◌∷◌, [], ℕ, IfOk, OnOk, Some, None, length, map};
 ghost use Rattle.jn_points.specs.Lookup.{body_at, points_of};
 ghost use Rattle.jn_env.specs.Environment.{Env as EnvOf};
+ghost use Rattle.jn_env.specs.Keys.{is_key};
 ghost use Rattle.jn_env.specs.Order.{env_in};
 ghost use Rattle.jn_env.specs.Sized.{EnvSized, Sized};
-ghost use Rattle.jn_voided.specs.Courses.{AreTests, IsCourse};
+ghost use Rattle.jn_voided.specs.Courses.{AreMakers, IsCourse};
 ghost use Rattle.jn_voided.specs.Voided as spec;
 
 use jn_base::lists::put;
@@ -28,41 +29,49 @@ pub struct Passed {
     pub ways: Seq<Way>,
 }
 
+/// Whether the field of the object in the register is this one.
+fn is_key(key: FieldKey, object: RegNo, field: FieldNo) -> bool
+    ensures { result ≡ is_key key.reg key.field (record { reg = object.0; field = field.0 }) }
+{
+    object.0 == key.reg() && field.0 == key.field()
+}
+
 /// Whether the origin is the field of the object in the register.
 fn is_of(key: FieldKey, origin: Option<Origin>) -> bool
     ensures { result ≡ spec.is_of key origin }
 {
     match origin {
         None => false,
-        Some(origin) => origin.reg.0 == key.reg() && origin.field.0 == key.field(),
+        Some(origin) => is_key(key, origin.reg, origin.field),
     }
 }
 
-/// Whether the point tests the field of the object in the register.
-fn tests(key: FieldKey, point: &Point) -> bool
-    ensures { result ≡ spec.tests key (Some point.now) }
+/// Whether the point tests the field of the object in the register, or writes it.
+fn makes(key: FieldKey, point: &Point) -> bool
+    ensures { result ≡ spec.makes key (Some point.now) }
 {
     match &point.kind {
+        PointKind::FieldWrite { object, field, .. } => is_key(key, object.reg, *field),
         PointKind::TestInst { origin, .. } => is_of(key, *origin),
         PointKind::TestNull { origin, .. } => is_of(key, *origin),
         _ => false,
     }
 }
 
-/// The points that test the field of the object in the register.
+/// The points that test the field of the object in the register, or write it.
 ///
 /// # Errors
 /// No memory was found.
-pub(crate) fn find_tests(
+pub(crate) fn find_makers(
     alloc: Global,
     points: &[Point],
     key: FieldKey,
 ) -> Result<Vec<bool>, AllocError>
-    ensures { IfOk result (λ found. AreTests key points.now found.items) }
+    ensures { IfOk result (λ found. AreMakers key points.now found.items) }
 {
     let mut found = Vec::new(alloc);
     for at in 0..points.len() {
-        put(&mut found, tests(key, &points[at]))?;
+        put(&mut found, makes(key, &points[at]))?;
     }
     Ok(found)
 }

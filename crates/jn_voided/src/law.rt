@@ -1,4 +1,4 @@
-//! Laws of tests that something made void.
+//! Laws of facts that something made void.
 ghost use Rattle.std.specs.Prelude.{◌≡◌, ℕ, List, Option};
 ghost use Rattle.jn_quals.specs.Qualifier.{Qualifier};
 ghost use Rattle.jn_points.specs.declared.program.Program.{Program};

@@ -1,7 +1,7 @@
-//! Tests of fields that something made void: an assignment, or a call that may change the field.
+//! Facts on fields that something made void: a test or an assignment made it known that a field isn't null, and an assignment or a call ended that.
 //!
-//! [`first_voided`] gives the first pair of a test and a point that ended what the test made known before the field was read. The pair is a fact of the
-//! body's table (`specs/Voided.antt`), and there is one first.
+//! [`first_voided`] gives the first pair of a point that made it known that the field isn't null and one that ended that before the field was read. The pair
+//! is a fact of the body's table (`specs/Voided.antt`), and there is one first.
 #![tactic(auto)]
 
 mod analysis;

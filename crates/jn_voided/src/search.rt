@@ -1,4 +1,4 @@
-//! Tests that something made void.
+//! Facts that something made void.
 ghost use Rattle.std.specs.Prelude.{◌≡◌, ◌<◌, ◌^◌, IfOk, None, Some, length, true};
 ghost use Rattle.jn_points.specs.Lookup.{body_at, points_of};
 ghost use Rattle.jn_env.specs.Sized.{Sized};
@@ -6,7 +6,7 @@ ghost use Rattle.jn_voided.specs.Courses.{IsCourse, is_in, passed_in};
 ghost use Rattle.jn_voided.specs.Searched.{IsFoundBy, pair};
 ghost use Rattle.jn_voided.specs.Voided.{IsFound};
 
-use crate::course::{Passed, find_course, find_tests};
+use crate::course::{Passed, find_course, find_makers};
 use crate::turns::find_turns;
 use jn_base::{OutOfMemory, PointNo};
 use jn_env::{Env, FieldKey};
@@ -14,38 +14,38 @@ use jn_points::Point;
 use jn_transfer::Analysis;
 use std::alloc::Global;
 
-/// A test of a field, and the point after it that ended what the test made known.
+/// A test of a field, or an assignment to it, and the point after it that ended what it made known.
 #[derive(Clone, Copy, Debug, PartialEq, Eq)]
 pub struct Voided {
-    pub tested: PointNo,
+    pub made: PointNo,
     pub ended: PointNo,
 }
 
 /// The pair of two points, where both are there.
-fn pair(tested: Option<u32>, ended: u32) -> Option<Voided>
-    ensures { result ≡ pair tested ended }
+fn pair(made: Option<u32>, ended: u32) -> Option<Voided>
+    ensures { result ≡ pair made ended }
 {
-    match tested {
+    match made {
         None => None,
-        Some(tested) => Some(Voided {
-            tested: PointNo(tested),
+        Some(made) => Some(Voided {
+            made: PointNo(made),
             ended: PointNo(ended),
         }),
     }
 }
 
-/// The first pair in a course: of the least point since which the fact isn't known the least test since which it was known there.
+/// The first pair in a course: of the least point since which the fact isn't known the least that made it as the last before it.
 fn search(
     alloc: Global,
     course: &[Passed],
-    tests: &[bool],
+    makers: &[bool],
     read: u32,
 ) -> Result<Option<Voided>, OutOfMemory>
     requires some { 0 < length course.now }
     requires few { length course.now < 2 ^ 32 }
-    ensures { IfOk result (λ found. IsFoundBy (passed_in course.now) (is_in tests.now) read found) }
+    ensures { IfOk result (λ found. IsFoundBy (passed_in course.now) (is_in makers.now) read found) }
 {
-    let known = find_turns(alloc, course, tests, true)?;
+    let known = find_turns(alloc, course, makers, true)?;
     let ends = known.there(alloc)?;
     let unknown = find_turns(alloc, course, &ends, false)?;
     match unknown.at(read as usize) {
@@ -70,14 +70,14 @@ fn voided_in(
     ensures { IfOk result (λ found. IsFound analysis.now.program analysis.now.sig
         analysis.now.body table.now key read.0 found) }
 {
-    let tests = find_tests(alloc, points, key)?;
+    let makers = find_makers(alloc, points, key)?;
     let course = find_course(alloc, analysis, key, points, table)?;
-    search(alloc, &course, &tests, read.0)
+    search(alloc, &course, &makers, read.0)
 }
 
-/// The first pair of a test of the field of the object in the register and a point that ended what the test made known, so that it wasn't known again
-/// up to the point `read`; None where there is no such pair. Only a test counts: what an assignment made known gives no pair. The first is that of the
-/// least point that ended it, and of that the least test, by the numbers of points in the analysed body, whose table this is.
+/// The first pair of a point that made it known that the field of the object in the register isn't null, a test or an assignment, and a point that ended
+/// that, so that it wasn't known again up to the point `read`; None where there is no such pair. What made it known last counts. The first pair is that of
+/// the least point that ended it, and of that the least that made it, by the numbers of points in the analysed body, whose table this is.
 ///
 /// # Errors
 /// No memory was found.

@@ -11,7 +11,7 @@ use jn_dataflow::solve;
 use std::alloc::{AllocError, Global};
 use std::marker::Model;
 
-/// For each point of a body the least source at which the fact turned to what is wanted, and since which it has been so; None where there is none.
+/// For each point of a body the least source that is the last on a way there, and since which the fact is as wanted; None where there is none.
 #[derive(Drop)]
 pub(crate) struct Turns {
     slots: Vec<Option<Option<u32>>>,
@@ -85,7 +85,7 @@ fn flat(slot: &Option<Option<u32>>) -> Option<u32>
     }
 }
 
-/// For each point the least of the sources at which the fact turned to what is wanted, and since which it has been so.
+/// For each point the least of the sources that are the last on a way there, and since which the fact is as wanted.
 ///
 /// # Errors
 /// No memory was found.

@@ -2,7 +2,7 @@ use Rattle.std.proofs.Common.{ap, ◌∙◌}
 use Rattle.std.specs.Prelude.{slice_get}
 use Rattle.std.proofs.lemmas.Result.{IfOk-weaker}
 use Rattle.jn_voided.specs.Courses.{is_in, passed_in}
-use Rattle.jn_voided.specs.Voided.{tests}
+use Rattle.jn_voided.specs.Voided.{makes}
 use Rattle.jn_voided.proofs.Pairing.{found_is}
 use Rattle.jn_voided.proofs.search.voided_in.Goals as goal
 
@@ -16,5 +16,5 @@ returns c =
     IfOk-weaker c.search.result _ _ (λ found h.
     found_is P s b t k (passed_in c.deref.result.now) (is_in c.deref-2.result.now)
     (λ p. ap (λ xs. passed_in xs p) c.deref.ensures.value ∙ c.in_ok-course.ensures.course p)
-    (λ p. ap (λ xs. is_in xs p) c.deref-2.ensures.value ∙ c.in_ok-tests.ensures p ∙ ap (λ xs. tests k (slice_get xs p)) c.requires.points)
+    (λ p. ap (λ xs. is_in xs p) c.deref-2.ensures.value ∙ c.in_ok-makers.ensures p ∙ ap (λ xs. makes k (slice_get xs p)) c.requires.points)
     c.args.read.0 found h) c.search.ensures
