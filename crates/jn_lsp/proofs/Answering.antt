@@ -5,7 +5,7 @@ use Rattle.std.proofs.lemmas.Grind.{flat_map-append}
 use Rattle.jn_base.specs.declared.infer.Infer.{Infer}
 use Rattle.jn_lsp_text.specs.declared.id.Id.{Id}
 use Rattle.jn_lsp_text.specs.declared.message.Message.{Message}
-use Rattle.jn_lsp_text.specs.declared.message.Message.TheVariants.{Initialize, Initialized, DidOpen, DidChange, DidSave, DidClose, WatchedFiles, CodeAction, InlayHint, Hover as HoverAsked, Shutdown, Exit, Ignored, Unknown, BadDocument, BadParams, NoMessage, NoJson, BadHeader, TooLarge}
+use Rattle.jn_lsp_text.specs.declared.message.Message.TheVariants.{Initialize, Initialized, DidOpen, DidChange, DidSave, DidClose, WatchedFiles, ChangedFolders, CodeAction, InlayHint, Hover as HoverAsked, Shutdown, Exit, Ignored, Unknown, BadDocument, BadParams, NoMessage, NoJson, BadHeader, TooLarge}
 use Rattle.jn_lsp_text.specs.declared.reply.Action.{Action}
 use Rattle.jn_lsp_text.specs.declared.reply.Failure.{Failure}
 use Rattle.jn_lsp_text.specs.declared.markup.Markup.{Markup}
@@ -56,6 +56,7 @@ waiting_one (DidChange name version changes) = refl
 waiting_one (DidSave name) = refl
 waiting_one (DidClose name) = refl
 waiting_one WatchedFiles = refl
+waiting_one (ChangedFolders added removed) = refl
 waiting_one (CodeAction id name range) = refl
 waiting_one (InlayHint id name range) = refl
 waiting_one (HoverAsked id name position) = refl
@@ -78,6 +79,7 @@ serving_one markup actions hints hover (DidChange name version changes) = refl
 serving_one markup actions hints hover (DidSave name) = refl
 serving_one markup actions hints hover (DidClose name) = refl
 serving_one markup actions hints hover WatchedFiles = refl
+serving_one markup actions hints hover (ChangedFolders added removed) = refl
 serving_one markup actions hints hover (CodeAction id name range) = refl
 serving_one markup actions hints hover (InlayHint id name range) = refl
 serving_one markup actions hints hover (HoverAsked id name position) = refl
@@ -100,6 +102,7 @@ late_one (DidChange name version changes) = refl
 late_one (DidSave name) = refl
 late_one (DidClose name) = refl
 late_one WatchedFiles = refl
+late_one (ChangedFolders added removed) = refl
 late_one (CodeAction id name range) = refl
 late_one (InlayHint id name range) = refl
 late_one (HoverAsked id name position) = refl
@@ -169,6 +172,7 @@ waiting_on (DidChange name version changes) e = tt
 waiting_on (DidSave name) e = tt
 waiting_on (DidClose name) e = tt
 waiting_on WatchedFiles e = tt
+waiting_on (ChangedFolders added removed) e = tt
 waiting_on (CodeAction id name range) e = tt
 waiting_on (InlayHint id name range) e = tt
 waiting_on (HoverAsked id name position) e = tt
@@ -191,6 +195,7 @@ serving_on (DidChange name version changes) e = tt
 serving_on (DidSave name) e = tt
 serving_on (DidClose name) e = tt
 serving_on WatchedFiles e = tt
+serving_on (ChangedFolders added removed) e = tt
 serving_on (CodeAction id name range) e = tt
 serving_on (InlayHint id name range) e = tt
 serving_on (HoverAsked id name position) e = tt
@@ -213,6 +218,7 @@ shut_down_on (DidChange name version changes) e = tt
 shut_down_on (DidSave name) e = tt
 shut_down_on (DidClose name) e = tt
 shut_down_on WatchedFiles e = tt
+shut_down_on (ChangedFolders added removed) e = tt
 shut_down_on (CodeAction id name range) e = tt
 shut_down_on (InlayHint id name range) e = tt
 shut_down_on (HoverAsked id name position) e = tt
@@ -244,6 +250,7 @@ exit_is (DidChange name version changes) e = clash (sym e)
 exit_is (DidSave name) e = clash (sym e)
 exit_is (DidClose name) e = clash (sym e)
 exit_is WatchedFiles e = clash (sym e)
+exit_is (ChangedFolders added removed) e = clash (sym e)
 exit_is (CodeAction id name range) e = clash (sym e)
 exit_is (InlayHint id name range) e = clash (sym e)
 exit_is (HoverAsked id name position) e = clash (sym e)

@@ -9,7 +9,7 @@ use Rattle.jn_lsp_text.specs.declared.encoding.Encoding.{Encoding}
 use Rattle.jn_lsp_text.specs.declared.id.Id.{Id}
 use Rattle.jn_lsp_text.specs.declared.markup.Markup.{Markup}
 use Rattle.jn_lsp_text.specs.declared.message.Message.{Message}
-use Rattle.jn_lsp_text.specs.declared.message.Message.TheVariants.{Initialize, Initialized, DidOpen, DidChange, DidSave, DidClose, WatchedFiles, CodeAction, InlayHint, Hover as HoverAsked, Shutdown, Exit, Ignored, Unknown, BadDocument, BadParams, NoMessage, NoJson, BadHeader, TooLarge}
+use Rattle.jn_lsp_text.specs.declared.message.Message.TheVariants.{Initialize, Initialized, DidOpen, DidChange, DidSave, DidClose, WatchedFiles, ChangedFolders, CodeAction, InlayHint, Hover as HoverAsked, Shutdown, Exit, Ignored, Unknown, BadDocument, BadParams, NoMessage, NoJson, BadHeader, TooLarge}
 use Rattle.jn_lsp_text.specs.declared.reply.Action.{Action}
 use Rattle.jn_lsp_text.specs.declared.reply.Diagnostic.{Diagnostic}
 use Rattle.jn_lsp_text.specs.declared.reply.Failure.{Failure}
@@ -52,6 +52,7 @@ module _ (name : List ℕ) (last : List Diagnostic) where
   waiting_silent (DidSave named) = refl
   waiting_silent (DidClose named) = refl
   waiting_silent WatchedFiles = refl
+  waiting_silent (ChangedFolders added removed) = refl
   waiting_silent (CodeAction id named range) = refl
   waiting_silent (InlayHint id named range) = refl
   waiting_silent (HoverAsked id named position) = refl
@@ -74,6 +75,7 @@ module _ (name : List ℕ) (last : List Diagnostic) where
   serving_silent markup actions hints hover (DidSave named) = refl
   serving_silent markup actions hints hover (DidClose named) = refl
   serving_silent markup actions hints hover WatchedFiles = refl
+  serving_silent markup actions hints hover (ChangedFolders added removed) = refl
   serving_silent markup actions hints hover (CodeAction id named range) = refl
   serving_silent markup actions hints hover (InlayHint id named range) = refl
   serving_silent markup actions hints hover (HoverAsked id named position) = refl
@@ -96,6 +98,7 @@ module _ (name : List ℕ) (last : List Diagnostic) where
   late_silent (DidSave named) = refl
   late_silent (DidClose named) = refl
   late_silent WatchedFiles = refl
+  late_silent (ChangedFolders added removed) = refl
   late_silent (CodeAction id named range) = refl
   late_silent (InlayHint id named range) = refl
   late_silent (HoverAsked id named position) = refl

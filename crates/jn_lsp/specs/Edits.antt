@@ -7,7 +7,7 @@ use Rattle.jn_lsp_text.specs.declared.encoding.Encoding.{Encoding}
 use Rattle.jn_lsp_text.specs.declared.message.Change.{Change}
 use Rattle.jn_lsp_text.specs.declared.message.Change.TheVariants.{Whole, Part}
 use Rattle.jn_lsp_text.specs.declared.message.Message.{Message}
-use Rattle.jn_lsp_text.specs.declared.message.Message.TheVariants.{Initialize, Initialized, DidOpen, DidChange, DidSave, DidClose, WatchedFiles, CodeAction, InlayHint, Hover, Shutdown, Exit, Ignored, Unknown, BadDocument, BadParams, NoMessage, NoJson, BadHeader, TooLarge}
+use Rattle.jn_lsp_text.specs.declared.message.Message.TheVariants.{Initialize, Initialized, DidOpen, DidChange, DidSave, DidClose, WatchedFiles, ChangedFolders, CodeAction, InlayHint, Hover, Shutdown, Exit, Ignored, Unknown, BadDocument, BadParams, NoMessage, NoJson, BadHeader, TooLarge}
 use Rattle.jn_recheck.specs.Files.{with_file, without_file}
 use Rattle.jn_lsp.specs.Names.{is_among}
 use Rattle.jn_lsp.specs.Stand.{document_of}
@@ -60,6 +60,7 @@ AreEdited encoding unknown (Initialize id folders infer files exclude markup oth
 AreEdited encoding unknown Initialized documents after = after ≡ None
 AreEdited encoding unknown (DidSave name) documents after = after ≡ None
 AreEdited encoding unknown WatchedFiles documents after = after ≡ None
+AreEdited encoding unknown (ChangedFolders added removed) documents after = after ≡ None
 AreEdited encoding unknown (CodeAction id name range) documents after = after ≡ None
 AreEdited encoding unknown (InlayHint id name range) documents after = after ≡ None
 AreEdited encoding unknown (Hover id name position) documents after = after ≡ None

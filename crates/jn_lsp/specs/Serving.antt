@@ -14,7 +14,7 @@ use Rattle.jn_lsp_text.specs.declared.id.Id.{Id}
 use Rattle.jn_lsp_text.specs.declared.markup.Markup.{Markup}
 use Rattle.jn_lsp_text.specs.declared.markup.Markup.TheVariants.{Plain}
 use Rattle.jn_lsp_text.specs.declared.message.Message.{Message}
-use Rattle.jn_lsp_text.specs.declared.message.Message.TheVariants.{Initialize, Initialized, DidOpen, DidChange, DidSave, DidClose, WatchedFiles, CodeAction, InlayHint, Hover as HoverAsked, Shutdown, Exit, Ignored, Unknown, BadDocument, BadParams, NoMessage, NoJson, BadHeader, TooLarge}
+use Rattle.jn_lsp_text.specs.declared.message.Message.TheVariants.{Initialize, Initialized, DidOpen, DidChange, DidSave, DidClose, WatchedFiles, ChangedFolders, CodeAction, InlayHint, Hover as HoverAsked, Shutdown, Exit, Ignored, Unknown, BadDocument, BadParams, NoMessage, NoJson, BadHeader, TooLarge}
 use Rattle.jn_lsp_text.specs.declared.reply.Action.{Action}
 use Rattle.jn_lsp_text.specs.declared.reply.Diagnostic.{Diagnostic}
 use Rattle.jn_lsp_text.specs.declared.reply.Failure.{Failure}
@@ -58,6 +58,7 @@ unread (DidChange name version changes) = None
 unread (DidSave name) = None
 unread (DidClose name) = None
 unread WatchedFiles = None
+unread (ChangedFolders added removed) = None
 unread (CodeAction id name range) = None
 unread (InlayHint id name range) = None
 unread (HoverAsked id name position) = None
@@ -133,6 +134,7 @@ phase_behind (Exited in_order) _ = Exited in_order
 abbrev pub wants_folder : Message → Bool
 wants_folder Initialized = true
 wants_folder WatchedFiles = true
+wants_folder (ChangedFolders added removed) = true
 wants_folder (DidSave name) = true
 wants_folder (DidClose name) = true
 wants_folder _ = false

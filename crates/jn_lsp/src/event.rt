@@ -24,6 +24,7 @@ pub fn wants_folder(message: &Message) -> bool
     match message {
         Message::Initialized => true,
         Message::WatchedFiles => true,
+        Message::ChangedFolders { .. } => true,
         Message::DidSave { .. } => true,
         Message::DidClose { .. } => true,
         _ => false,

@@ -131,6 +131,13 @@ impl Server {
         self.phase
     }
 
+    /// The documents that the client has open, in the order in which they were opened.
+    pub fn documents(&self) -> &[SourceFile]
+        ensures { result.now ≡ self.now.workspace.documents }
+    {
+        self.workspace.documents.as_slice()
+    }
+
     /// What was told last of the files that stand, in their order: the diagnostics of their report.
     pub fn told(&self) -> &[Told]
         ensures are { result.now ≡ self.now.told }

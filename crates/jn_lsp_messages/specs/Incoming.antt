@@ -20,7 +20,7 @@ use Rattle.jn_lsp_text.specs.declared.message.Change.TheVariants.{Whole, Part}
 use Rattle.jn_lsp_text.specs.declared.message.Message.{Message}
 use Rattle.jn_lsp_text.specs.declared.message.Message.TheVariants as message
 use Rattle.jn_lsp_messages.specs.declared.method.Method.{Method}
-use Rattle.jn_lsp_messages.specs.declared.method.Method.TheVariants.{Initialize, Initialized, DidOpen, DidChange, DidSave, DidClose, WatchedFiles, CodeAction, InlayHint, Hover, Shutdown, Exit, Other}
+use Rattle.jn_lsp_messages.specs.declared.method.Method.TheVariants.{Initialize, Initialized, DidOpen, DidChange, DidSave, DidClose, WatchedFiles, ChangedFolders, CodeAction, InlayHint, Hover, Shutdown, Exit, Other}
 use Rattle.jn_lsp_messages.specs.Methods.{method_of}
 use Rattle.jn_lsp_messages.specs.Uris.{name_of, or_other}
 
@@ -138,6 +138,13 @@ folders_of d paths = record { paths = or_root (root_in d) paths; watched = watch
 unfoldable pub folders_in : Data → Option Folders
 folders_in d = option_map (folders_of d) (paths_in d)
 
+-- the folders that are in the workspace from now on, and those that are no longer (WorkspaceFoldersChangeEvent)
+unfoldable pub added_in : Data → Option (List (List ℕ))
+added_in d = option_and_then (all_values path_in) (pointer (codes "/params/event/added") d)
+
+unfoldable pub removed_in : Data → Option (List (List ℕ))
+removed_in d = option_and_then (all_values path_in) (pointer (codes "/params/event/removed") d)
+
 -- the members that are inferred by the settings; what is no text says none
 abbrev pub choice_by : Option (List ℕ) → Choice
 choice_by None = Wrong
@@ -208,6 +215,9 @@ opened d = about (λ name. option_map (message.DidOpen name (document_version d)
 abbrev pub changed : Data → Message
 changed d = about (λ name. option_map (message.DidChange name (document_version d)) (changes_in d)) (document_name d)
 
+abbrev pub changed_folders : Data → Option Message
+changed_folders d = option_and_then (λ added. option_map (message.ChangedFolders added) (removed_in d)) (added_in d)
+
 abbrev pub asked_start : Id → Data → Option Message
 asked_start id d =
     option_and_then (λ folders. option_and_then (λ files. option_map (λ exclude. message.Initialize id folders (infer_in d) files exclude (markup_in d) (encoding_in d))
@@ -229,6 +239,7 @@ notification DidChange d = changed d
 notification DidSave d = or_bad None (option_map message.DidSave (document_name d))
 notification DidClose d = or_bad None (option_map message.DidClose (document_name d))
 notification WatchedFiles d = message.WatchedFiles
+notification ChangedFolders d = or_bad None (changed_folders d)
 notification Exit d = message.Exit
 notification Initialize d = message.Ignored
 notification CodeAction d = message.Ignored
@@ -249,6 +260,7 @@ request DidChange id d = message.Unknown id
 request DidSave id d = message.Unknown id
 request DidClose id d = message.Unknown id
 request WatchedFiles id d = message.Unknown id
+request ChangedFolders id d = message.Unknown id
 request Exit id d = message.Unknown id
 request Other id d = message.Unknown id
 

@@ -198,9 +198,9 @@ sync_data = object (member (codes "change") (number (unsigned 2)) (member (codes
 unfoldable pub kinds_data : Data
 kinds_data = object (one (codes "codeActionKinds") (array (item (string (codes "quickfix")) no_items)))
 
--- a workspace may have several folders (WorkspaceFoldersServerCapabilities)
+-- a workspace may have several folders, and the client is to tell where they change (WorkspaceFoldersServerCapabilities)
 unfoldable pub workspace_data : Data
-workspace_data = object (one (codes "workspaceFolders") (object (one (codes "supported") (boolean true))))
+workspace_data = object (one (codes "workspaceFolders") (object (member (codes "changeNotifications") (boolean true) (one (codes "supported") (boolean true)))))
 
 -- PositionEncodingKind
 abbrev pub encoding_name : Encoding → List ℕ

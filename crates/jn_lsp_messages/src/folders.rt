@@ -84,6 +84,28 @@ fn paths_in(alloc: Global, body: &Value) -> Result<Option<Seq<Text>>, OutOfMemor
     }
 }
 
+/// The paths of the folders that are in the workspace from now on.
+#[tactic(auto, unfolding(crate::specs::Incoming::added_in))]
+pub(crate) fn added_in(alloc: Global, body: &Value) -> Result<Option<Seq<Text>>, OutOfMemory>
+    ensures { IfOk result (λ paths. paths ≡ spec.added_in (view body.now)) }
+{
+    match body.pointer("/params/event/added") {
+        None => Ok(None),
+        Some(folders) => all_paths(alloc, folders),
+    }
+}
+
+/// The paths of the folders that are in the workspace no longer.
+#[tactic(auto, unfolding(crate::specs::Incoming::removed_in))]
+pub(crate) fn removed_in(alloc: Global, body: &Value) -> Result<Option<Seq<Text>>, OutOfMemory>
+    ensures { IfOk result (λ paths. paths ≡ spec.removed_in (view body.now)) }
+{
+    match body.pointer("/params/event/removed") {
+        None => Ok(None),
+        Some(folders) => all_paths(alloc, folders),
+    }
+}
+
 fn all_paths(alloc: Global, value: &Value) -> Result<Option<Seq<Text>>, OutOfMemory>
     ensures { IfOk result (λ paths. paths ≡ spec.all_values spec.path_in (view value.now)) }
 {

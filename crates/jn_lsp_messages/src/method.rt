@@ -31,6 +31,8 @@ pub enum Method {
     Exit,
     /// Any other.
     Other,
+    /// `workspace/didChangeWorkspaceFolders`.
+    ChangedFolders,
 }
 
 /// The method of a name.
@@ -51,6 +53,7 @@ pub fn method_of(name: &str) -> Method
         "textDocument/hover" => Method::Hover,
         "shutdown" => Method::Shutdown,
         "exit" => Method::Exit,
+        "workspace/didChangeWorkspaceFolders" => Method::ChangedFolders,
         _ => Method::Other,
     }
 }

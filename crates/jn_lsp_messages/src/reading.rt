@@ -3,7 +3,7 @@ ghost use Rattle.std.specs.Prelude.{◌≡◌, Some, None, codes, IfOk, MatchOpt
 ghost use Rattle.serde_json.specs.View.{view};
 ghost use Rattle.jn_lsp_messages.specs.Incoming as spec;
 
-use crate::folders::folders_in;
+use crate::folders::{added_in, folders_in, removed_in};
 use crate::method::{Method, method_of};
 use crate::params::{
     changes_in, document_name, document_text, document_version, encoding_in, exclude_in, files_in,
@@ -123,6 +123,7 @@ fn notification(alloc: Global, method: Method, body: &Value) -> Result<Message, 
         Method::DidSave => did_save(alloc, body),
         Method::DidClose => did_close(alloc, body),
         Method::WatchedFiles => Ok(Message::WatchedFiles),
+        Method::ChangedFolders => did_change_folders(alloc, body),
         Method::Exit => Ok(Message::Exit),
         Method::Initialize
         | Method::CodeAction
@@ -183,6 +184,18 @@ fn did_close(alloc: Global, body: &Value) -> Result<Message, OutOfMemory>
     }
 }
 
+fn did_change_folders(alloc: Global, body: &Value) -> Result<Message, OutOfMemory>
+    ensures { IfOk result (λ m. m ≡ spec.notification Method.ChangedFolders (view body.now)) }
+{
+    let Some(added) = added_in(alloc, body)? else {
+        return Ok(Message::BadParams { id: None });
+    };
+    match removed_in(alloc, body)? {
+        None => Ok(Message::BadParams { id: None }),
+        Some(removed) => Ok(Message::ChangedFolders { added, removed }),
+    }
+}
+
 fn request(alloc: Global, method: Method, id: Id, body: &Value) -> Result<Message, OutOfMemory>
     ensures { IfOk result (λ m. m ≡ spec.request method id (view body.now)) }
 {
@@ -198,6 +211,7 @@ fn request(alloc: Global, method: Method, id: Id, body: &Value) -> Result<Messag
         | Method::DidSave
         | Method::DidClose
         | Method::WatchedFiles
+        | Method::ChangedFolders
         | Method::Exit
         | Method::Other => Ok(Message::Unknown { id }),
     }

@@ -192,7 +192,7 @@ fn kinds_value(alloc: Global) -> Result<Value, AllocError>
 fn workspace_value(alloc: Global) -> Result<Value, AllocError>
     ensures { IfOk result (λ v. view v ≡ spec.workspace_data) }
 {
-    json!(in alloc; {"workspaceFolders": {"supported": true}})
+    json!(in alloc; {"workspaceFolders": {"changeNotifications": true, "supported": true}})
 }
 
 #[tactic(auto, unfolding(crate::specs::Outgoing::sync_data))]

@@ -105,4 +105,9 @@ pub enum Message {
     BadHeader,
     /// A body of more bytes than the limit.
     TooLarge,
+    /// `workspace/didChangeWorkspaceFolders`: the paths of the folders that are in the workspace from now on, and of those that are no longer.
+    ChangedFolders {
+        added: Seq<Text>,
+        removed: Seq<Text>,
+    },
 }

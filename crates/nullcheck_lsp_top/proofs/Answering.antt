@@ -5,10 +5,11 @@ use Rattle.std.specs.List.{AllZip}
 use Rattle.std.proofs.lemmas.Grind.{flat_map-append}
 use Rattle.jn_base.specs.declared.infer.Infer.{Infer}
 use Rattle.jn_outside.specs.Files.{Holding}
+use Rattle.jn_front.specs.declared.source.SourceFile.{SourceFile}
 use Rattle.jn_lsp_frames.specs.declared.frame.Frame.{Frame}
 use Rattle.jn_lsp_text.specs.declared.message.Change.{Change}
 use Rattle.jn_lsp_text.specs.declared.message.Message.{Message}
-use Rattle.jn_lsp_text.specs.declared.message.Message.TheVariants.{Initialize, Initialized, DidOpen, DidChange, DidSave, DidClose, WatchedFiles, CodeAction, InlayHint, Hover, Shutdown, Exit, Ignored, Unknown, BadDocument, BadParams, NoMessage, NoJson, BadHeader, TooLarge}
+use Rattle.jn_lsp_text.specs.declared.message.Message.TheVariants.{Initialize, Initialized, DidOpen, DidChange, DidSave, DidClose, WatchedFiles, ChangedFolders, CodeAction, InlayHint, Hover, Shutdown, Exit, Ignored, Unknown, BadDocument, BadParams, NoMessage, NoJson, BadHeader, TooLarge}
 use Rattle.jn_lsp_text.specs.declared.reply.Reply.{Reply}
 use Rattle.jn_lsp_text.specs.declared.reply.Reply.TheVariants.{Show}
 use Rattle.jn_lsp.specs.declared.event.Event.{Event}
@@ -16,10 +17,10 @@ use Rattle.jn_lsp.specs.declared.event.Event.TheVariants.{Folder, Message as Mes
 use Rattle.jn_lsp.specs.Requests.{AreAnswered, id_answered, id_asked, ids_answered, ids_asked, is_exit}
 use Rattle.jn_lsp.specs.Serving.{ServerOf, Serves, Takes, new_server}
 use Rattle.nullcheck_lsp_top.specs.declared.client.Client.{Client}
-use Rattle.nullcheck_lsp_top.specs.Hearing.{AnsweredOnce, Hears, HearsAll, IsMessageOf, Looks, LooksWhere, foreign, looks}
+use Rattle.nullcheck_lsp_top.specs.Hearing.{AnsweredOnce, Hears, HearsAll, IsMessageOf, Looks, LooksWhere, documents_of, foreign, looks, noticed, taken_as}
 use Rattle.nullcheck_lsp_top.specs.Looking.{Outside, new_client}
 use Rattle.nullcheck_lsp_top.specs.declared.client.Root.{Root}
-use Rattle.nullcheck_lsp_top.specs.Placing.{asks, is_asked, notices, or_ignored, placed, placed_name, says}
+use Rattle.nullcheck_lsp_top.specs.Placing.{asks, is_asked, or_ignored, placed, placed_name, says}
 use Rattle.nullcheck_lsp_top.specs.Reading.{is_among, shows}
 
 -- what is shown answers nothing
@@ -64,27 +65,28 @@ doubted_as : (place : Option (List ℕ)) (name : List ℕ) → AsksAs (or_ignore
 doubted_as None name = (refl, refl)
 doubted_as (Some place) name = (refl, refl)
 
-placed_asks : (root : Root) (message : Message) → AsksAs (placed root message) message
-placed_asks root (Initialize id folders infer files exclude markup encoding) = (refl, refl)
-placed_asks root Initialized = (refl, refl)
-placed_asks root (DidOpen name version text) = opened_as (placed_name root name) name version text
-placed_asks root (DidChange name version changes) = changed_as (placed_name root name) name version changes
-placed_asks root (DidSave name) = (refl, refl)
-placed_asks root (DidClose name) = closed_as (placed_name root name) name
-placed_asks root WatchedFiles = (refl, refl)
-placed_asks root (CodeAction id name range) = (refl, refl)
-placed_asks root (InlayHint id name range) = (refl, refl)
-placed_asks root (Hover id name position) = (refl, refl)
-placed_asks root (Shutdown id) = (refl, refl)
-placed_asks root Exit = (refl, refl)
-placed_asks root Ignored = (refl, refl)
-placed_asks root (Unknown id) = (refl, refl)
-placed_asks root (BadDocument name) = doubted_as (placed_name root name) name
-placed_asks root (BadParams id) = (refl, refl)
-placed_asks root NoMessage = (refl, refl)
-placed_asks root NoJson = (refl, refl)
-placed_asks root BadHeader = (refl, refl)
-placed_asks root TooLarge = (refl, refl)
+placed_asks : (root : Root) (documents : List SourceFile) (message : Message) → AsksAs (placed root documents message) message
+placed_asks root documents (Initialize id folders infer files exclude markup encoding) = (refl, refl)
+placed_asks root documents Initialized = (refl, refl)
+placed_asks root documents (DidOpen name version text) = opened_as (placed_name root documents name) name version text
+placed_asks root documents (DidChange name version changes) = changed_as (placed_name root documents name) name version changes
+placed_asks root documents (DidSave name) = (refl, refl)
+placed_asks root documents (DidClose name) = closed_as (placed_name root documents name) name
+placed_asks root documents WatchedFiles = (refl, refl)
+placed_asks root documents (ChangedFolders added removed) = (refl, refl)
+placed_asks root documents (CodeAction id name range) = (refl, refl)
+placed_asks root documents (InlayHint id name range) = (refl, refl)
+placed_asks root documents (Hover id name position) = (refl, refl)
+placed_asks root documents (Shutdown id) = (refl, refl)
+placed_asks root documents Exit = (refl, refl)
+placed_asks root documents Ignored = (refl, refl)
+placed_asks root documents (Unknown id) = (refl, refl)
+placed_asks root documents (BadDocument name) = doubted_as (placed_name root documents name) name
+placed_asks root documents (BadParams id) = (refl, refl)
+placed_asks root documents NoMessage = (refl, refl)
+placed_asks root documents NoJson = (refl, refl)
+placed_asks root documents BadHeader = (refl, refl)
+placed_asks root documents TooLarge = (refl, refl)
 
 -- events that a server took, which ask the same as these messages, and replies that answer the same as these
 record Served (before after : ServerOf) (messages : List Message) (replies : List Reply) : Type 0 where
@@ -170,8 +172,8 @@ heard_frame held old new before client after frame frames message replies first 
   messages = message ∷ others.messages;
   are = (is, others.are);
   served = subst (λ (rs : List Reply). Served before.server after.server (message ∷ others.messages) rs) (sym (all ∙ ap (λ (rs : List Reply). rs ++ rest) h.all))
-      (served_behind before.server after.server (message ∷ others.messages) (notices before.server.phase before.root before.said message) (h.first ++ h.more) rest (both_unasked (is_asked before.server.phase before.root message) before.said (foreign before message))
-      (by_files held before.server after.server h.mid client (placed before.root message) message (placed_asks before.root message) others.messages h.first h.more rest h.takes others.served (looks before.server.phase (placed before.root message)) h.out new h.behind));
+      (served_behind before.server after.server (message ∷ others.messages) (noticed before message) (h.first ++ h.more) rest (both_unasked (is_asked before.server.phase before.root message) before.said (foreign before message))
+      (by_files held before.server after.server h.mid client (taken_as before message) message (placed_asks before.root (documents_of before) message) others.messages h.first h.more rest h.takes others.served (looks before.server.phase (taken_as before message)) h.out new h.behind));
 }
 
 heard_all : (held : Option Holding) (old new : Outside) (before after : Client) (frames : List Frame) (replies : List Reply) → HearsAll held old new before frames replies after → Heard held before after frames replies

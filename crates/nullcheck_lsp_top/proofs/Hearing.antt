@@ -12,9 +12,8 @@ use Rattle.jn_lsp.specs.declared.phase.Phase.{Phase}
 use Rattle.jn_lsp.specs.Serving.{ServerOf, Takes}
 use Rattle.nullcheck_lsp_top.specs.declared.client.Client.{Client}
 use Rattle.nullcheck_lsp_top.specs.declared.client.Root.{Root}
-use Rattle.nullcheck_lsp_top.specs.Hearing.{Hears, HearsAll, IsMessageOf, Looks, LooksWhere, foreign, framed, looks, written}
-use Rattle.nullcheck_lsp_top.specs.Looking.{IsFound, Outside, Traces, root_or, told_root}
-use Rattle.nullcheck_lsp_top.specs.Placing.{notices, placed}
+use Rattle.nullcheck_lsp_top.specs.Hearing.{Hears, HearsAll, IsMessageOf, Looks, LooksWhere, foreign, framed, looks, noticed, taken_as, told_by, written}
+use Rattle.nullcheck_lsp_top.specs.Looking.{IsFound, Outside, Traces, root_or}
 use Rattle.nullcheck_lsp_top.specs.Reading.{shows}
 
 pub framed_both : (address : Option (List ℕ)) (xs ys : List Reply) → framed address (xs ++ ys) ≡ framed address xs ++ framed address ys
@@ -34,8 +33,8 @@ looks_from held old new before after files warnings told news replies found says
 
 -- a message was taken, as far as it is about the workspace
 module _ (held : Option Holding) (old out new : Outside) (told : Option Root) (before start mid after : Client) (message taken : Message) (sent first more replies : List Reply) where
-  pub hears_from : Traces (told_root before.server.phase message) told old out → start.server ≡ before.server → start.root ≡ root_or told before.root → start.shown ≡ before.shown → start.said ≡ (before.said || is_some (foreign before message)) → taken ≡ placed before.root message → Takes start.server (MessageEvent taken) first mid.server → mid.root ≡ start.root → mid.shown ≡ start.shown → mid.said ≡ start.said → LooksWhere (looks before.server.phase taken) held out new mid after more → sent ≡ notices before.server.phase before.root before.said message → replies ≡ sent ++ (first ++ more) → Hears held old new before message replies after
-  hears_from traces server root shown said is takes same_root same_shown same_said behind noticed all = record {
+  pub hears_from : Traces (told_by before message) told old out → start.server ≡ before.server → start.root ≡ root_or told before.root → start.shown ≡ before.shown → start.said ≡ (before.said || is_some (foreign before message)) → taken ≡ taken_as before message → Takes start.server (MessageEvent taken) first mid.server → mid.root ≡ start.root → mid.shown ≡ start.shown → mid.said ≡ start.said → LooksWhere (looks before.server.phase taken) held out new mid after more → sent ≡ noticed before message → replies ≡ sent ++ (first ++ more) → Hears held old new before message replies after
+  hears_from traces server root shown said is takes same_root same_shown same_said behind sent_is all = record {
     first = first;
     more = more;
     told = told;
@@ -47,7 +46,7 @@ module _ (held : Option Holding) (old out new : Outside) (told : Option Root) (b
     shown = same_shown ∙ shown;
     said = same_said ∙ said;
     behind = subst (λ (m : Message). LooksWhere (looks before.server.phase m) held out new mid after more) is behind;
-    all = all ∙ ap (λ (rs : List Reply). rs ++ (first ++ more)) noticed;
+    all = all ∙ ap (λ (rs : List Reply). rs ++ (first ++ more)) sent_is;
   }
 
 -- a frame more

@@ -9,9 +9,8 @@ use Rattle.jn_front.specs.Files.{file_limit}
 use Rattle.jn_lsp_text.specs.declared.message.Message.{Message}
 use Rattle.nullcheck_lsp_top.specs.declared.client.Client.{Client}
 use Rattle.nullcheck_lsp_top.specs.declared.client.Root.{Root}
-use Rattle.nullcheck_lsp_top.specs.Hearing.{StartsBy, looks}
-use Rattle.nullcheck_lsp_top.specs.Looking.{AreNamedBy, BeginsNamed, Listing, Outside, Starts, StartsWhere, Traces, listing_of, root_or, told_root}
-use Rattle.nullcheck_lsp_top.specs.Placing.{placed}
+use Rattle.nullcheck_lsp_top.specs.Hearing.{StartsBy, looks, taken_as, told_by}
+use Rattle.nullcheck_lsp_top.specs.Looking.{AreNamedBy, BeginsNamed, Listing, Outside, Starts, StartsWhere, Traces, listing_of, root_or}
 use Rattle.nullcheck_lsp_top.specs.Reading.{AreRead, GivesNext, ReadsFirst, Source, is_many, names_taken, source}
 use Rattle.nullcheck_lsp_top.proofs.Searching.{begins_none, traced_none}
 
@@ -91,7 +90,7 @@ starts_files held root old new names missed unnamed many named is read = inr (re
 
 -- ---- a message
 
-pub starts_from : (held : Option Holding) (old out new : Outside) (before : Client) (message taken : Message) (wanted : Bool) (root : Root) (told : Option Root) → Traces (told_root before.server.phase message) told old out → wanted ≡ looks before.server.phase taken → taken ≡ placed before.root message → root ≡ root_or told before.root → StartsWhere wanted held root out new → StartsBy held old new before message
+pub starts_from : (held : Option Holding) (old out new : Outside) (before : Client) (message taken : Message) (wanted : Bool) (root : Root) (told : Option Root) → Traces (told_by before message) told old out → wanted ≡ looks before.server.phase taken → taken ≡ taken_as before message → root ≡ root_or told before.root → StartsWhere wanted held root out new → StartsBy held old new before message
 starts_from held old out new before message taken wanted root told traces e f g starts = inl (
   told,
   out,
@@ -102,9 +101,9 @@ starts_from held old out new before message taken wanted root told traces e f g 
 )
 
 -- the folders were asked where they really are, and nothing else
-pub starts_traced : (held : Option Holding) (old out : Outside) (before : Client) (message : Message) (told : Option Root) → Traces (told_root before.server.phase message) told old out → StartsBy held old out before message
-starts_traced held old out before message told traces = inl (told, out, traces, where_none (looks before.server.phase (placed before.root message)) held (root_or told before.root) out)
+pub starts_traced : (held : Option Holding) (old out : Outside) (before : Client) (message : Message) (told : Option Root) → Traces (told_by before message) told old out → StartsBy held old out before message
+starts_traced held old out before message told traces = inl (told, out, traces, where_none (looks before.server.phase (taken_as before message)) held (root_or told before.root) out)
 
 -- nothing was asked
 pub starts_not : (held : Option Holding) (old : Outside) (before : Client) (message : Message) → StartsBy held old old before message
-starts_not held old before message = inr (traced_none (told_root before.server.phase message) (listing_of old), (refl, refl))
+starts_not held old before message = inr (traced_none (told_by before message) (listing_of old), (refl, refl))

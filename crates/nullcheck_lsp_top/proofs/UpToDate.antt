@@ -13,9 +13,9 @@ use Rattle.jn_lsp.specs.declared.event.Event.TheVariants.{Folder, Message as Mes
 use Rattle.jn_lsp.specs.Publications.{last_published, published}
 use Rattle.jn_lsp.specs.Serving.{ArePublishedLast, IsUpToDate, ServerOf, Serves, Takes, files_of, new_server}
 use Rattle.nullcheck_lsp_top.specs.declared.client.Client.{Client}
-use Rattle.nullcheck_lsp_top.specs.Hearing.{Hears, HearsAll, LooksWhere, foreign, looks}
+use Rattle.nullcheck_lsp_top.specs.Hearing.{Hears, HearsAll, LooksWhere, foreign, looks, noticed, taken_as}
 use Rattle.nullcheck_lsp_top.specs.Looking.{Outside, new_client}
-use Rattle.nullcheck_lsp_top.specs.Placing.{asks, is_asked, notices, placed, says}
+use Rattle.nullcheck_lsp_top.specs.Placing.{asks, is_asked, says}
 use Rattle.nullcheck_lsp_top.specs.Reading.{is_among, shows}
 
 -- ---- what was published last
@@ -112,8 +112,8 @@ took_behind before after sent replies silent p = record {
 
 heard_one : (held : Option Holding) (old new : Outside) (before after : Client) (message : Message) (replies : List Reply) → Hears held old new before message replies after → Took before.server replies after.server
 heard_one held old new before after message replies h =
-    let taken = placed before.root message in
-    let sent = notices before.server.phase before.root before.said message in
+    let taken = taken_as before message in
+    let sent = noticed before message in
     is_taken before.server after.server replies (sent ++ (h.first ++ h.more)) h.all
     (took_behind before.server after.server sent (h.first ++ h.more) (both_silent (is_asked before.server.phase before.root message) before.said (foreign before message))
     (took_both before.server h.mid.server after.server h.first h.more (took_one before.server h.mid.server (MessageEvent taken) h.first h.takes) (looked (looks before.server.phase taken) held h.out new h.mid after h.more h.behind)))

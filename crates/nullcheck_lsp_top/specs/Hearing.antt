@@ -54,9 +54,25 @@ abbrev pub LooksWhere : Bool → Option Holding → Outside → Outside → Clie
 LooksWhere false held old new before after replies = (new ≡ old) × (after ≡ before) × (replies ≡ [])
 LooksWhere true held old new before after replies = Looks held old new before after replies
 
+-- the documents that a client has open
+abbrev pub documents_of : Client → List SourceFile
+documents_of client = client.server.workspace.documents
+
+-- a message as the server takes it
+abbrev pub taken_as : Client → Message → Message
+taken_as client message = placed client.root (documents_of client) message
+
+-- where the message says that the files are
+abbrev pub told_by : Client → Message → Option Root
+told_by client message = told_root client.server.phase client.root message
+
 -- the document that a message opens, where it is none of the workspace's
 abbrev pub foreign : Client → Message → Option (List ℕ)
-foreign client message = foreign_in client.server.phase client.root message
+foreign client message = foreign_in client.server.phase client.root (documents_of client) message
+
+-- what is sent before the message is answered
+abbrev pub noticed : Client → Message → List Reply
+noticed client message = notices client.server.phase client.root (documents_of client) client.said message
 
 -- where the message says where the files are, the folders are asked where they really are, and that is kept; the server takes the message as far as
 -- it is about the workspace, and where files are to be read after it, those
@@ -65,21 +81,21 @@ pub record Hears (held : Option Holding) (old new : Outside) (before : Client) (
   pub more : List Reply
   pub told : Option Root
   pub out : Outside
-  pub traces : Traces (told_root before.server.phase message) told old out
+  pub traces : Traces (told_by before message) told old out
   pub mid : Client
-  pub takes : Takes before.server (MessageEvent (placed before.root message)) first mid.server
+  pub takes : Takes before.server (MessageEvent (taken_as before message)) first mid.server
   pub root : mid.root ≡ root_or told before.root
   pub shown : mid.shown ≡ before.shown
   pub said : mid.said ≡ (before.said || is_some (foreign before message))
-  pub behind : LooksWhere (looks before.server.phase (placed before.root message)) held out new mid after more
-  pub all : replies ≡ notices before.server.phase before.root before.said message ++ (first ++ more)
+  pub behind : LooksWhere (looks before.server.phase (taken_as before message)) held out new mid after more
+  pub all : replies ≡ noticed before message ++ (first ++ more)
 
 -- what was asked of folders and files is what the message asks for, or the first of that
 abbrev pub StartsBy : Option Holding → Outside → Outside → Client → Message → Type 0
 StartsBy held old new before message =
-    ((told : Option Root) × (out : Outside) × Traces (told_root before.server.phase message) told old out
-    × StartsWhere (looks before.server.phase (placed before.root message)) held (root_or told before.root) out new)
-    ⊎ TracesFirst (told_root before.server.phase message) old new
+    ((told : Option Root) × (out : Outside) × Traces (told_by before message) told old out
+    × StartsWhere (looks before.server.phase (taken_as before message)) held (root_or told before.root) out new)
+    ⊎ TracesFirst (told_by before message) old new
 
 -- ---- frames
 

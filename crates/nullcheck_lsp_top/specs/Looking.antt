@@ -1,22 +1,23 @@
 -- Where a workspace's files are, and what is found there.
-use Rattle.std.specs.Prelude.{ℕ, ◌≡◌, ◌⊎◌, ◌++◌, Bool, false, true, List, [], ◌∷◌, Option, Some, None, length, map, take}
+use Rattle.std.specs.Prelude.{ℕ, ◌≡◌, ◌⊎◌, ◌++◌, Bool, false, true, List, [], ◌∷◌, Option, Some, None, length, map, take, if◌then◌else◌}
+use Rattle.std.specs.List.{flat_map}
 use Rattle.jn_base.specs.declared.infer.Infer.{Infer}
 use Rattle.jn_outside.specs.Files.{Holding}
 use Rattle.jn_outside.specs.declared.given.Given.{Given}
 use Rattle.jn_folder.specs.declared.listed.Listed.{Listed}
-use Rattle.jn_folder.specs.Listing.{with_real}
+use Rattle.jn_folder.specs.Listing.{each_once, is_among, with_real}
 use Rattle.jn_folder.specs.Walking.{BeginsWalk, Counts, IsOrderOf, Walks, telling}
 use Rattle.jn_front.specs.declared.source.SourceFile.{SourceFile}
 use Rattle.jn_lsp_text.specs.declared.folders.Folders.{Folders}
 use Rattle.jn_lsp_text.specs.declared.message.Message.{Message}
-use Rattle.jn_lsp_text.specs.declared.message.Message.TheVariants.{Initialize, Initialized, DidOpen, DidChange, DidSave, DidClose, WatchedFiles, CodeAction, InlayHint, Hover, Shutdown, Exit, Ignored, Unknown, BadDocument, BadParams, NoMessage, NoJson, BadHeader, TooLarge}
+use Rattle.jn_lsp_text.specs.declared.message.Message.TheVariants.{Initialize, Initialized, DidOpen, DidChange, DidSave, DidClose, WatchedFiles, ChangedFolders, CodeAction, InlayHint, Hover, Shutdown, Exit, Ignored, Unknown, BadDocument, BadParams, NoMessage, NoJson, BadHeader, TooLarge}
 use Rattle.jn_lsp.specs.declared.phase.Phase.{Phase}
 use Rattle.jn_lsp.specs.declared.phase.Phase.TheVariants.{Waiting, Serving, ShutDown, Exited}
 use Rattle.jn_lsp.specs.Serving.{new_server}
 use Rattle.nullcheck_lsp_top.specs.declared.client.Client.{Client}
 use Rattle.nullcheck_lsp_top.specs.declared.client.Home.{Home}
 use Rattle.nullcheck_lsp_top.specs.declared.client.Root.{Root}
-use Rattle.nullcheck_lsp_top.specs.Placing.{files_named, named_paths}
+use Rattle.nullcheck_lsp_top.specs.Placing.{files_named, named_path, named_paths}
 use Rattle.nullcheck_lsp_top.specs.Reading.{AreTaken, ReadsFirst, is_many, names_taken, source, warnings_of}
 
 -- ---- where files are
@@ -27,7 +28,7 @@ unasked path = record { path = path; real = None }
 
 -- the plain paths of the folders, each once, and what the settings say
 abbrev pub root_of : Folders → List (List ℕ) → List (List ℕ) → Root
-root_of folders files exclude = record { folders = map unasked (named_paths None folders.paths); watched = folders.watched; files = files; exclude = exclude }
+root_of folders files exclude = record { folders = map unasked (named_paths None folders.paths); watched = folders.watched; files = files; exclude = exclude; left = [] }
 
 abbrev pub no_folders : Folders
 no_folders = record { paths = []; watched = false }
@@ -45,6 +46,7 @@ root_in (DidChange name version changes) = None
 root_in (DidSave name) = None
 root_in (DidClose name) = None
 root_in WatchedFiles = None
+root_in (ChangedFolders added removed) = None
 root_in (CodeAction id name range) = None
 root_in (InlayHint id name range) = None
 root_in (Hover id name position) = None
@@ -59,12 +61,37 @@ root_in NoJson = None
 root_in BadHeader = None
 root_in TooLarge = None
 
--- the first one counts
-abbrev pub told_root : Phase → Message → Option Root
-told_root Waiting m = root_in m
-told_root Serving m = None
-told_root ShutDown m = None
-told_root (Exited in_order) m = None
+-- ---- folders that change
+
+-- the path of a folder that isn't removed
+abbrev pub stays : List (List ℕ) → Home → List (List ℕ)
+stays removed home = if is_among removed home.path then [] else home.path ∷ []
+
+abbrev pub leaves : List (List ℕ) → Home → List Home
+leaves removed home = if is_among removed home.path then home ∷ [] else []
+
+-- the folders before that aren't removed, then the added ones, each once
+abbrev pub paths_behind : List Home → List (List ℕ) → List (List ℕ) → List (List ℕ)
+paths_behind homes added removed = each_once (flat_map (stays removed) homes ++ added)
+
+-- they are asked anew where they really are; by those that are removed documents are known that were opened below them
+abbrev pub root_moved : Root → List (List ℕ) → List (List ℕ) → Root
+root_moved root added removed = record { folders = map unasked (paths_behind root.folders added removed); watched = root.watched; files = root.files; exclude = root.exclude; left = root.left ++ flat_map (leaves removed) root.folders }
+
+-- by their plain paths
+abbrev pub root_behind : Root → List (List ℕ) → List (List ℕ) → Root
+root_behind root added removed = root_moved root (map (named_path None) added) (map (named_path None) removed)
+
+abbrev pub root_by : Root → Message → Option Root
+root_by root (ChangedFolders added removed) = Some (root_behind root added removed)
+root_by root _ = None
+
+-- the first `initialize` says where the files are, and then each change of the folders while the server serves
+abbrev pub told_root : Phase → Root → Message → Option Root
+told_root Waiting root m = root_in m
+told_root Serving root m = root_by root m
+told_root ShutDown root m = None
+told_root (Exited in_order) root m = None
 
 abbrev pub root_or : Option Root → Root → Root
 root_or None root = root
@@ -114,7 +141,7 @@ abbrev pub AreRealFirst : List Home → Listing → Listing → Type 0
 AreRealFirst homes old new = (asked : ℕ) × (after : List Home) × AreReal (take asked homes) after old new
 
 abbrev pub rooted : List Home → Root → Root
-rooted homes root = record { folders = homes; watched = root.watched; files = root.files; exclude = root.exclude }
+rooted homes root = record { folders = homes; watched = root.watched; files = root.files; exclude = root.exclude; left = root.left }
 
 -- where it is said where the files are, the folders were asked, and that is kept
 abbrev pub AreTraced : Option Root → Option Root → Listing → Listing → Type 0

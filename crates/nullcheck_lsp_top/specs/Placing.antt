@@ -1,12 +1,15 @@
--- Which documents are of the workspace: each file of this host in its folder that isn't left out, and each that the settings name.
+-- Which documents are of the workspace: each that is open already, each file of this host in its folders that isn't left out, and each that the
+-- settings name.
 use Rattle.std.specs.Prelude.{ℕ, ◌&&◌, ◌||◌, Bool, true, false, List, [], ◌∷◌, ◌++◌, Option, Some, None, codes, is_some, map, option_map, if◌then◌else◌}
 use Rattle.std.specs.List.{list_any}
 use Rattle.jn_folder.specs.Listing.{each_once, is_among, joined}
 use Rattle.jn_folder.specs.Plain.{is_below, is_whole, plain, rehomed}
+use Rattle.jn_front.specs.declared.source.SourceFile.{SourceFile}
+use Rattle.jn_lsp.specs.Stand.{has_name}
 use Rattle.jn_lsp.specs.declared.phase.Phase.{Phase}
 use Rattle.jn_lsp.specs.declared.phase.Phase.TheVariants.{Waiting, Serving, ShutDown, Exited}
 use Rattle.jn_lsp_text.specs.declared.message.Message.{Message}
-use Rattle.jn_lsp_text.specs.declared.message.Message.TheVariants.{Initialize, Initialized, DidOpen, DidChange, DidSave, DidClose, WatchedFiles, CodeAction, InlayHint, Hover, Shutdown, Exit, Ignored, Unknown, BadDocument, BadParams, NoMessage, NoJson, BadHeader, TooLarge}
+use Rattle.jn_lsp_text.specs.declared.message.Message.TheVariants.{Initialize, Initialized, DidOpen, DidChange, DidSave, DidClose, WatchedFiles, ChangedFolders, CodeAction, InlayHint, Hover, Shutdown, Exit, Ignored, Unknown, BadDocument, BadParams, NoMessage, NoJson, BadHeader, TooLarge}
 use Rattle.jn_lsp_text.specs.declared.reply.Reply.{Reply}
 use Rattle.jn_lsp_text.specs.declared.reply.Reply.TheVariants.{Show, Watch}
 use Rattle.nullcheck_lsp_top.specs.declared.client.Home.{Home}
@@ -69,12 +72,28 @@ homed_in root [] path = None
 homed_in root (home ∷ homes) path = or_homed (if_of root (homed home path)) (homed_in root homes path)
 
 -- a path that is one of the workspace's, as it is or below a folder
-abbrev pub placed_path : Root → List ℕ → Option (List ℕ)
-placed_path root path = or_homed (if_of root path) (homed_in root root.folders path)
+abbrev pub listed_path : Root → List ℕ → Option (List ℕ)
+listed_path root path = or_homed (if_of root path) (homed_in root root.folders path)
 
--- the name by which a document is one of the workspace's; a name that is no path, as that of another scheme or host, is none
-abbrev pub placed_name : Root → List ℕ → Option (List ℕ)
-placed_name root name = placed_path root (plain name)
+-- the path, where a document is open by it
+abbrev pub if_open : List SourceFile → List ℕ → Option (List ℕ)
+if_open documents path = if has_name path documents then Some path else None
+
+-- a plain path as it is below the first of these folders below which a document is open by it
+abbrev pub open_in : List SourceFile → List Home → List ℕ → Option (List ℕ)
+open_in documents [] path = None
+open_in documents (home ∷ homes) path = or_homed (if_open documents (homed home path)) (open_in documents homes path)
+
+-- the path by which a document is open already: as it is or below a folder, also one that was taken out of the workspace since
+abbrev pub open_path : Root → List SourceFile → List ℕ → Option (List ℕ)
+open_path root documents path = or_homed (if_open documents path) (or_homed (open_in documents root.folders path) (open_in documents root.left path))
+
+abbrev pub placed_path : Root → List SourceFile → List ℕ → Option (List ℕ)
+placed_path root documents path = or_homed (open_path root documents path) (listed_path root path)
+
+-- the name by which a document is open or one of the workspace's; a name that is no path, as that of another scheme or host, is none
+abbrev pub placed_name : Root → List SourceFile → List ℕ → Option (List ℕ)
+placed_name root documents name = placed_path root documents (plain name)
 
 abbrev pub or_same : Option (List ℕ) → List ℕ → List ℕ
 or_same None name = name
@@ -85,27 +104,28 @@ or_ignored None = Ignored
 or_ignored (Some m) = m
 
 -- a message as the server takes it: documents by the names of the workspace's files, and nothing of others
-abbrev pub placed : Root → Message → Message
-placed root (Initialize id folders infer files exclude markup encoding) = Initialize id folders infer files exclude markup encoding
-placed root Initialized = Initialized
-placed root (DidOpen name version text) = or_ignored (option_map (λ n. DidOpen n version text) (placed_name root name))
-placed root (DidChange name version changes) = or_ignored (option_map (λ n. DidChange n version changes) (placed_name root name))
-placed root (DidSave name) = DidSave name
-placed root (DidClose name) = or_ignored (option_map DidClose (placed_name root name))
-placed root WatchedFiles = WatchedFiles
-placed root (CodeAction id name range) = CodeAction id (or_same (placed_name root name) name) range
-placed root (InlayHint id name range) = InlayHint id (or_same (placed_name root name) name) range
-placed root (Hover id name position) = Hover id (or_same (placed_name root name) name) position
-placed root (Shutdown id) = Shutdown id
-placed root Exit = Exit
-placed root Ignored = Ignored
-placed root (Unknown id) = Unknown id
-placed root (BadDocument name) = or_ignored (option_map BadDocument (placed_name root name))
-placed root (BadParams id) = BadParams id
-placed root NoMessage = NoMessage
-placed root NoJson = NoJson
-placed root BadHeader = BadHeader
-placed root TooLarge = TooLarge
+abbrev pub placed : Root → List SourceFile → Message → Message
+placed root documents (Initialize id folders infer files exclude markup encoding) = Initialize id folders infer files exclude markup encoding
+placed root documents Initialized = Initialized
+placed root documents (DidOpen name version text) = or_ignored (option_map (λ n. DidOpen n version text) (placed_name root documents name))
+placed root documents (DidChange name version changes) = or_ignored (option_map (λ n. DidChange n version changes) (placed_name root documents name))
+placed root documents (DidSave name) = DidSave name
+placed root documents (DidClose name) = or_ignored (option_map DidClose (placed_name root documents name))
+placed root documents WatchedFiles = WatchedFiles
+placed root documents (ChangedFolders added removed) = ChangedFolders added removed
+placed root documents (CodeAction id name range) = CodeAction id (or_same (placed_name root documents name) name) range
+placed root documents (InlayHint id name range) = InlayHint id (or_same (placed_name root documents name) name) range
+placed root documents (Hover id name position) = Hover id (or_same (placed_name root documents name) name) position
+placed root documents (Shutdown id) = Shutdown id
+placed root documents Exit = Exit
+placed root documents Ignored = Ignored
+placed root documents (Unknown id) = Unknown id
+placed root documents (BadDocument name) = or_ignored (option_map BadDocument (placed_name root documents name))
+placed root documents (BadParams id) = BadParams id
+placed root documents NoMessage = NoMessage
+placed root documents NoJson = NoJson
+placed root documents BadHeader = BadHeader
+placed root documents TooLarge = TooLarge
 
 -- ---- what is asked of the client
 
@@ -127,15 +147,15 @@ asks true = Watch ∷ []
 -- ---- what is said of others
 
 -- the document that a message opens, where it is none of the workspace's
-abbrev pub foreign_by : Root → Message → Option (List ℕ)
-foreign_by root (DidOpen name version text) = if is_some (placed_name root name) then None else Some name
-foreign_by root _ = None
+abbrev pub foreign_by : Root → List SourceFile → Message → Option (List ℕ)
+foreign_by root documents (DidOpen name version text) = if is_some (placed_name root documents name) then None else Some name
+foreign_by root documents _ = None
 
-abbrev pub foreign_in : Phase → Root → Message → Option (List ℕ)
-foreign_in Waiting root _ = None
-foreign_in Serving root m = foreign_by root m
-foreign_in ShutDown root _ = None
-foreign_in (Exited in_order) root _ = None
+abbrev pub foreign_in : Phase → Root → List SourceFile → Message → Option (List ℕ)
+foreign_in Waiting root documents _ = None
+foreign_in Serving root documents m = foreign_by root documents m
+foreign_in ShutDown root documents _ = None
+foreign_in (Exited in_order) root documents _ = None
 
 abbrev pub foreign_words : List ℕ → List ℕ
 foreign_words name = codes "nullcheck: " ++ name ++ codes ": this document is none of the workspace's files, so it isn't checked, nor are others like it"
@@ -147,5 +167,5 @@ says true (Some name) = []
 says false (Some name) = Show (foreign_words name) ∷ []
 
 -- what is sent before a message is answered
-abbrev pub notices : Phase → Root → Bool → Message → List Reply
-notices phase root said m = asks (is_asked phase root m) ++ says said (foreign_in phase root m)
+abbrev pub notices : Phase → Root → List SourceFile → Bool → Message → List Reply
+notices phase root documents said m = asks (is_asked phase root m) ++ says said (foreign_in phase root documents m)

@@ -2,6 +2,7 @@
 ghost use Rattle.std.specs.Prelude.{◌≡◌, IfOk, map};
 ghost use Rattle.nullcheck_lsp_top.specs.Looking as spec;
 
+use crate::moving::root_by;
 use crate::placing::named_paths;
 use jn_base::{Infer, Seq, Text};
 use jn_lsp::{Phase, Server};
@@ -28,6 +29,8 @@ pub struct Root {
     pub files: Seq<Text>,
     /// The names of folders that are left out.
     pub exclude: Seq<Text>,
+    /// The folders that were taken out of the workspace, by which documents are known that were opened below them.
+    pub left: Seq<Home>,
 }
 
 /// A client: the server that it speaks to, where its files are, the warnings of the last reading of them, and whether it was said that
@@ -52,6 +55,7 @@ impl Client {
                 watched: false,
                 files: Seq::new(alloc),
                 exclude: Seq::new(alloc),
+                left: Seq::new(alloc),
             },
             shown: Seq::new(alloc),
             said: false,
@@ -71,7 +75,7 @@ pub(crate) fn copy_texts(alloc: Global, texts: &[Text]) -> Result<Seq<Text>, All
 }
 
 /// Folders of these paths, of which none was asked yet where it really is.
-fn unasked(alloc: Global, paths: &[Text]) -> Result<Seq<Home>, AllocError>
+pub(crate) fn unasked(alloc: Global, paths: &[Text]) -> Result<Seq<Home>, AllocError>
     ensures { IfOk result (λ homes. homes ≡ map spec.unasked paths.now) }
 {
     let mut homes = Seq::new(alloc);
@@ -99,6 +103,7 @@ fn copy_root(
         watched: folders.watched,
         files: copy_texts(alloc, files)?,
         exclude: copy_texts(alloc, exclude)?,
+        left: Seq::new(alloc),
     })
 }
 
@@ -120,16 +125,18 @@ fn root_in(alloc: Global, message: &Message) -> Result<Option<Root>, AllocError>
     }
 }
 
-/// Where the files are, by a message that comes in this phase, where that says so and counts.
+/// Where the files are, by a message that comes in this phase after they were there, where that says so and counts.
 pub(crate) fn told_root(
     alloc: Global,
     phase: Phase,
+    root: &Root,
     message: &Message,
 ) -> Result<Option<Root>, AllocError>
-    ensures { IfOk result (λ root. root ≡ spec.told_root phase message.now) }
+    ensures { IfOk result (λ told. told ≡ spec.told_root phase root.now message.now) }
 {
     match phase {
         Phase::Waiting => root_in(alloc, message),
+        Phase::Serving => root_by(alloc, root, message),
         _ => Ok(None),
     }
 }

@@ -166,6 +166,7 @@ fn rooted(homes: Seq<Home>, root: Root) -> Root
         watched,
         files,
         exclude,
+        left,
         ..
     } = root;
     Root {
@@ -173,6 +174,7 @@ fn rooted(homes: Seq<Home>, root: Root) -> Root
         watched,
         files,
         exclude,
+        left,
     }
 }
 
@@ -219,17 +221,18 @@ fn traced_where<D: Folder>(
 pub(crate) fn traced<D: Folder>(
     alloc: Global,
     phase: Phase,
+    root: &Root,
     message: &Message,
     folder: &mut D,
 ) -> Result<Option<Root>, OutOfMemory>
-    ensures traces { IfOk result (λ made. spec.AreTraced (spec.told_root phase message.now) made
+    ensures traces { IfOk result (λ made. spec.AreTraced (spec.told_root phase root.now message.now) made
         (spec.listing (D.told folder.old) (D.faults folder.old))
         (spec.listing (D.told folder.new) (D.faults folder.new))) }
-    ensures first { spec.AreTracedFirst (spec.told_root phase message.now)
+    ensures first { spec.AreTracedFirst (spec.told_root phase root.now message.now)
         (spec.listing (D.told folder.old) (D.faults folder.old))
         (spec.listing (D.told folder.new) (D.faults folder.new)) }
 {
-    let told = told_root(alloc, phase, message)?;
+    let told = told_root(alloc, phase, root, message)?;
     let made = traced_where(alloc, told, folder)?;
     Ok(made)
 }

@@ -9,6 +9,7 @@ mod finding;
 mod frames;
 pub mod law;
 mod messages;
+mod moving;
 mod placing;
 mod status;
 mod texts;

@@ -10,6 +10,7 @@ use crate::placing::{foreign_in, notices, placed};
 use crate::warning::show;
 use jn_base::OutOfMemory;
 use jn_folder::Folder;
+use jn_front::SourceFile;
 use jn_lsp::{Event, Phase, wants_folder};
 use jn_lsp_frames::Frame;
 use jn_lsp_messages::read_message;
@@ -124,15 +125,16 @@ fn first_of(
     alloc: Global,
     phase: Phase,
     root: &Root,
+    documents: &[SourceFile],
     said: bool,
     message: &Message,
 ) -> Result<First, AllocError>
     ensures notices { IfOk result
-        (λ first. first.notices.items ≡ notices phase root.now said message.now) }
+        (λ first. first.notices.items ≡ notices phase root.now documents.now said message.now) }
     ensures foreign { IfOk result
-        (λ first. first.foreign ≡ is_some (foreign_in phase root.now message.now)) }
+        (λ first. first.foreign ≡ is_some (foreign_in phase root.now documents.now message.now)) }
 {
-    let foreign = foreign_in(alloc, phase, root, message)?;
+    let foreign = foreign_in(alloc, phase, root, documents, message)?;
     let notices = notices(alloc, phase, root, said, message, &foreign)?;
     Ok(First {
         notices,
@@ -174,9 +176,10 @@ pub(crate) fn hear<R: Threads + Sync, F: Files, D: Folder, G: Gate + Sync>(
         client.old message }
 {
     let phase = client.server.phase();
-    let first = first_of(alloc, phase, &client.root, client.said, &message)?;
-    let told = traced(alloc, phase, &message, folder)?;
-    let message = placed(alloc, &client.root, message)?;
+    let documents = client.server.documents();
+    let first = first_of(alloc, phase, &client.root, documents, client.said, &message)?;
+    let told = traced(alloc, phase, &client.root, &message, folder)?;
+    let message = placed(alloc, &client.root, documents, message)?;
     let looks = looks(phase, &message);
     settle(client, told, first.foreign);
     let replies = client.server.take(rt, gate, &Event::Message(message))?;

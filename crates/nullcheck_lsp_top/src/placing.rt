@@ -1,10 +1,12 @@
 //! Which documents are of the workspace.
 ghost use Rattle.std.specs.Prelude.{◌≡◌, ◌++◌, IfOk, map};
+ghost use Rattle.jn_lsp.specs.Stand.{has_name};
 ghost use Rattle.nullcheck_lsp_top.specs.Placing as spec;
 
 use crate::client::{Home, Root};
 use jn_base::Text;
 use jn_folder::{each_once, is_among, is_below, is_whole, joined, plain, rehomed};
+use jn_front::SourceFile;
 use jn_lsp::Phase;
 use jn_lsp_text::{Message, Reply};
 use std::alloc::{AllocError, Global};
@@ -42,7 +44,11 @@ fn named_path(alloc: Global, folder: &Option<Text>, name: &Text) -> Result<Text,
 }
 
 /// The plain paths of these names.
-fn all_paths(alloc: Global, folder: &Option<Text>, names: &[Text]) -> Result<Vec<Text>, AllocError>
+pub(crate) fn all_paths(
+    alloc: Global,
+    folder: &Option<Text>,
+    names: &[Text],
+) -> Result<Vec<Text>, AllocError>
     ensures { IfOk result (λ paths. paths.items ≡ map (spec.named_path folder.now) names.now) }
 {
     let mut paths = Vec::new(alloc);
@@ -172,8 +178,8 @@ fn homed_in(
 }
 
 /// A path that is one of the workspace's, as it is or below a folder.
-fn placed_path(alloc: Global, root: &Root, path: &str) -> Result<Option<Text>, AllocError>
-    ensures { IfOk result (λ placed. placed ≡ spec.placed_path root.now path.now) }
+fn listed_path(alloc: Global, root: &Root, path: &str) -> Result<Option<Text>, AllocError>
+    ensures { IfOk result (λ placed. placed ≡ spec.listed_path root.now path.now) }
 {
     match if_of(alloc, root, path)? {
         Some(placed) => Ok(Some(placed)),
@@ -181,12 +187,122 @@ fn placed_path(alloc: Global, root: &Root, path: &str) -> Result<Option<Text>, A
     }
 }
 
-/// The name by which a document is one of the workspace's.
-fn placed_name(alloc: Global, root: &Root, name: &Text) -> Result<Option<Text>, AllocError>
-    ensures { IfOk result (λ placed. placed ≡ spec.placed_name root.now name.now) }
+// ---- documents that are open
+
+/// Whether a document is open by this path.
+fn is_open(documents: &[SourceFile], path: &str) -> bool
+    ensures { result ≡ has_name path.now documents.now }
+{
+    documents
+        .iter()
+        .any(|document| document.name.as_str() == path)
+}
+
+/// The path, where a document is open by it.
+fn if_open(alloc: Global, documents: &[SourceFile], path: &str) -> Result<Option<Text>, AllocError>
+    ensures { IfOk result (λ placed. placed ≡ spec.if_open documents.now path.now) }
+{
+    if is_open(documents, path) {
+        Ok(Some(Text::of_str(alloc, path)?))
+    } else {
+        Ok(None)
+    }
+}
+
+/// A plain path as it is below this folder, where a document is open by it.
+fn open_at(
+    alloc: Global,
+    documents: &[SourceFile],
+    home: &Home,
+    path: &str,
+) -> Result<Option<Text>, AllocError>
+    ensures { IfOk result
+        (λ placed. placed ≡ spec.if_open documents.now (spec.homed home.now path.now)) }
+{
+    let moved = homed(alloc, home, path)?;
+    if_open(alloc, documents, moved.as_str())
+}
+
+/// A plain path as it is below the first of these folders below which a document is open by it.
+fn open_in(
+    alloc: Global,
+    documents: &[SourceFile],
+    homes: &[Home],
+    path: &str,
+) -> Result<Option<Text>, AllocError>
+    ensures { IfOk result (λ placed. placed ≡ spec.open_in documents.now homes.now path.now) }
+{
+    let mut rest = homes;
+    while let [home, more @ ..] = rest {
+        if let Some(placed) = open_at(alloc, documents, home, path)? {
+            return Ok(Some(placed));
+        }
+        rest = more;
+    }
+    Ok(None)
+}
+
+/// A plain path as it is below a folder of the workspace, or one that was taken out of it, where a document is open by it.
+fn open_below(
+    alloc: Global,
+    root: &Root,
+    documents: &[SourceFile],
+    path: &str,
+) -> Result<Option<Text>, AllocError>
+    ensures { IfOk result (λ placed. placed ≡ spec.or_homed
+        (spec.open_in documents.now root.now.folders path.now)
+        (spec.open_in documents.now root.now.left path.now)) }
+{
+    match open_in(alloc, documents, root.folders.as_slice(), path)? {
+        Some(placed) => Ok(Some(placed)),
+        None => open_in(alloc, documents, root.left.as_slice(), path),
+    }
+}
+
+/// The path by which a document is open already.
+fn open_path(
+    alloc: Global,
+    root: &Root,
+    documents: &[SourceFile],
+    path: &str,
+) -> Result<Option<Text>, AllocError>
+    ensures { IfOk result
+        (λ placed. placed ≡ spec.open_path root.now documents.now path.now) }
+{
+    match if_open(alloc, documents, path)? {
+        Some(placed) => Ok(Some(placed)),
+        None => open_below(alloc, root, documents, path),
+    }
+}
+
+/// The path by which a document is open already or one of the workspace's.
+fn placed_path(
+    alloc: Global,
+    root: &Root,
+    documents: &[SourceFile],
+    path: &str,
+) -> Result<Option<Text>, AllocError>
+    ensures { IfOk result
+        (λ placed. placed ≡ spec.placed_path root.now documents.now path.now) }
+{
+    match open_path(alloc, root, documents, path)? {
+        Some(placed) => Ok(Some(placed)),
+        None => listed_path(alloc, root, path),
+    }
+}
+
+/// The name by which a document is open or one of the workspace's.
+fn placed_name(
+    alloc: Global,
+    root: &Root,
+    documents: &[SourceFile],
+    name: &Text,
+) -> Result<Option<Text>, AllocError>
+    ensures { IfOk result
+        (λ placed. placed ≡ spec.placed_name root.now documents.now name.now) }
 {
     let stands = plain(alloc, name.as_str())?;
-    let placed = placed_path(alloc, root, stands.as_str())?;
+    let placed = placed_path(alloc, root, documents, stands.as_str())?;
     Ok(placed)
 }
 
@@ -200,15 +316,20 @@ fn or_same(placed: Option<Text>, name: Text) -> Text
 }
 
 /// The message as the server takes it: documents by the names of the workspace's files, and nothing of others.
-pub(crate) fn placed(alloc: Global, root: &Root, message: Message) -> Result<Message, AllocError>
-    ensures { IfOk result (λ placed. placed ≡ spec.placed root.now message) }
+pub(crate) fn placed(
+    alloc: Global,
+    root: &Root,
+    documents: &[SourceFile],
+    message: Message,
+) -> Result<Message, AllocError>
+    ensures { IfOk result (λ placed. placed ≡ spec.placed root.now documents.now message) }
 {
     match message {
         Message::DidOpen {
             name,
             version,
             text,
-        } => match placed_name(alloc, root, &name)? {
+        } => match placed_name(alloc, root, documents, &name)? {
             None => Ok(Message::Ignored),
             Some(name) => Ok(Message::DidOpen {
                 name,
@@ -220,7 +341,7 @@ pub(crate) fn placed(alloc: Global, root: &Root, message: Message) -> Result<Mes
             name,
             version,
             changes,
-        } => match placed_name(alloc, root, &name)? {
+        } => match placed_name(alloc, root, documents, &name)? {
             None => Ok(Message::Ignored),
             Some(name) => Ok(Message::DidChange {
                 name,
@@ -228,16 +349,16 @@ pub(crate) fn placed(alloc: Global, root: &Root, message: Message) -> Result<Mes
                 changes,
             }),
         },
-        Message::DidClose { name } => match placed_name(alloc, root, &name)? {
+        Message::DidClose { name } => match placed_name(alloc, root, documents, &name)? {
             None => Ok(Message::Ignored),
             Some(name) => Ok(Message::DidClose { name }),
         },
-        Message::BadDocument { name } => match placed_name(alloc, root, &name)? {
+        Message::BadDocument { name } => match placed_name(alloc, root, documents, &name)? {
             None => Ok(Message::Ignored),
             Some(name) => Ok(Message::BadDocument { name }),
         },
         Message::CodeAction { id, name, range } => {
-            let placed = placed_name(alloc, root, &name)?;
+            let placed = placed_name(alloc, root, documents, &name)?;
             Ok(Message::CodeAction {
                 id,
                 name: or_same(placed, name),
@@ -245,7 +366,7 @@ pub(crate) fn placed(alloc: Global, root: &Root, message: Message) -> Result<Mes
             })
         }
         Message::InlayHint { id, name, range } => {
-            let placed = placed_name(alloc, root, &name)?;
+            let placed = placed_name(alloc, root, documents, &name)?;
             Ok(Message::InlayHint {
                 id,
                 name: or_same(placed, name),
@@ -253,7 +374,7 @@ pub(crate) fn placed(alloc: Global, root: &Root, message: Message) -> Result<Mes
             })
         }
         Message::Hover { id, name, position } => {
-            let placed = placed_name(alloc, root, &name)?;
+            let placed = placed_name(alloc, root, documents, &name)?;
             Ok(Message::Hover {
                 id,
                 name: or_same(placed, name),
@@ -267,11 +388,16 @@ pub(crate) fn placed(alloc: Global, root: &Root, message: Message) -> Result<Mes
 // ---- what is said of others
 
 /// The document that a message opens, where it is none of the workspace's.
-fn foreign_by(alloc: Global, root: &Root, message: &Message) -> Result<Option<Text>, AllocError>
-    ensures { IfOk result (λ foreign. foreign ≡ spec.foreign_by root.now message.now) }
+fn foreign_by(
+    alloc: Global,
+    root: &Root,
+    documents: &[SourceFile],
+    message: &Message,
+) -> Result<Option<Text>, AllocError>
+    ensures { IfOk result (λ foreign. foreign ≡ spec.foreign_by root.now documents.now message.now) }
 {
     match message {
-        Message::DidOpen { name, .. } => match placed_name(alloc, root, name)? {
+        Message::DidOpen { name, .. } => match placed_name(alloc, root, documents, name)? {
             None => Ok(Some(name.copy(alloc)?)),
             Some(_) => Ok(None),
         },
@@ -284,12 +410,14 @@ pub(crate) fn foreign_in(
     alloc: Global,
     phase: Phase,
     root: &Root,
+    documents: &[SourceFile],
     message: &Message,
 ) -> Result<Option<Text>, AllocError>
-    ensures { IfOk result (λ foreign. foreign ≡ spec.foreign_in phase root.now message.now) }
+    ensures { IfOk result
+        (λ foreign. foreign ≡ spec.foreign_in phase root.now documents.now message.now) }
 {
     match phase {
-        Phase::Serving => foreign_by(alloc, root, message),
+        Phase::Serving => foreign_by(alloc, root, documents, message),
         _ => Ok(None),
     }
 }

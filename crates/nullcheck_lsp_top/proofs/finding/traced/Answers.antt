@@ -13,7 +13,7 @@ returns-clause-traces g c =
 pub returns-in_err-told-clause-first : goal.returns-in_err-told-clause-first
 returns-in_err-told-clause-first g c =
     let old = listing (g.D.Folder.told c.args.folder.now) (g.D.Folder.faults c.args.folder.now) in
-    traced_none (told_root c.args.phase c.args.message.now) old
+    traced_none (told_root c.args.phase c.args.root.now c.args.message.now) old
 
 pub returns-in_err-made-clause-first : goal.returns-in_err-made-clause-first
 returns-in_err-made-clause-first g c =
