@@ -14,12 +14,6 @@ use Rattle.jn_sigtable.proofs.Bits.{within_or_l, within_or_r, within_refl, withi
 use Rattle.jn_worklist.proofs.RaiseSteps.{snoc_within, take_more}
 use Rattle.jn_again.specs.Losing.{AreGone, Grows}
 
--- an output that there is
-pub output_at : (os : List (WordNo × ℕ)) (i : ℕ) (d : WordNo × ℕ) → i < length os → get_elem? os i ≡ some (get_or os i d)
-output_at [] i d lt = absurd (omega (arith, lt))
-output_at (x ∷ xs) zero d lt = refl
-output_at (x ∷ xs) (suc i) d lt = output_at xs i d (omega (arith, lt))
-
 -- the bits of outputs for a word, one after the other
 pub bits_first : (os : List (WordNo × ℕ)) (w : ℕ) → Within (bit_or 0 (bits_for os w)) (bits_for os w)
 bits_first os w i = omega (arith, bit_at_or 0 (bits_for os w) i, bit_at-zero i)
@@ -83,18 +77,8 @@ gone_more n os i o start again xs ys at g here h w lt =
     (snoc_within (take i os) o w (bit_or (bit_or (start w) (again w)) (slice_index ys w)) (gone_still n (bits_for (take i os)) start again xs ys g h w lt)
     (λ s. subst (λ (u : ℕ). Within o.1 (bit_or (bit_or (start u) (again u)) (slice_index ys u))) s (here (subst (λ (u : ℕ). u < n) (sym s) lt))))
 
--- outputs of which each is gone
-pub each_gone : (os : List (WordNo × ℕ)) (i : ℕ) (o : WordNo × ℕ) (z : ℕ → ℕ) → get_elem? os i ≡ some o → Within o.1 (z o.0.0) → ((w : ℕ) → Within (bits_for (take i os) w) (z w)) → (w : ℕ) → Within (bits_for (take (i + 1) os) w) (z w)
-each_gone os i o z at here h w =
-    let e : i + 1 ≡ suc i = omega arith in
-    subst (λ (l : List (WordNo × ℕ)). Within (bits_for l w) (z w)) (sym (ap (λ (k : ℕ). take k os) e ∙ take_more os i o at))
-    (snoc_within (take i os) o w (z w) (h w) (λ s. subst (λ (u : ℕ). Within o.1 (z u)) s here))
-
 pub same_or : (bits a b c d : ℕ) → a ≡ c → b ≡ d → Within bits (bit_or a b) → Within bits (bit_or c d)
 same_or bits a b c d e f h = subst (λ (x : ℕ). Within bits (bit_or x d)) e (subst (λ (x : ℕ). Within bits (bit_or a x)) f h)
-
-pub or_same : (gone bits : ℕ) → bit_or gone bits ≡ gone → Within bits gone
-or_same gone bits e = subst (Within bits) e (within_or_r gone bits)
 
 -- all bits but those of the start
 pub first_lost : (b s : ℕ) → Within b (bit_or s (bit_xor b (bit_and b s)))

@@ -5,7 +5,7 @@ ghost use Rattle.jn_resume.specs.Keepable.{AreKeepable};
 ghost use Rattle.jn_again.specs.Losing.{AreGone, Follows, Grows, LoseSent, Lost, told};
 
 use crate::edit::Edit;
-use crate::masks::{are_gone, gone_from_start, lose};
+use crate::masks::{are_gone, are_none, gone_from_start, lose};
 use crate::reach::Reach;
 use jn_base::{BodyNo, OutOfMemory, WordNo};
 use jn_sigtable::Constraints;
@@ -149,7 +149,7 @@ fn settle<C: Constraints, R: Reach>(
     Ok(false)
 }
 
-/// Loses what changed bodies sent, and what follows from that; whether nothing more follows.
+/// Loses what changed bodies sent, and what follows from that; whether nothing more follows. Where no bit is lost, nothing does.
 fn lose_all<C: Constraints, R: Reach>(
     alloc: Global,
     edit: &Edit<C, R>,
@@ -168,6 +168,9 @@ fn lose_all<C: Constraints, R: Reach>(
         (told edit.now.changed.now) (slice_index lost.new)) }
 {
     lose_changed(alloc, edit, lost)?;
+    if are_none(lost) {
+        return Ok(true);
+    }
     settle(alloc, edit, lost)
 }
 

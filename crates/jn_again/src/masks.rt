@@ -121,3 +121,16 @@ pub(crate) fn differing(
     }
     Ok(bits)
 }
+
+/// Whether no mask has a bit.
+#[tactic(auto, using(crate::proofs::Nothing::none_first, crate::proofs::Nothing::none_more))]
+pub(crate) fn are_none(masks: &[u64]) -> bool
+    ensures { result ≡ true → (w : ℕ) → w < length masks.now → slice_index masks.now w ≡ 0 }
+{
+    for at in 0..masks.len() {
+        if masks[at] != 0 {
+            return false;
+        }
+    }
+    true
+}

@@ -4,13 +4,15 @@ ghost use Rattle.jn_sigtable.specs.System.{least};
 ghost use Rattle.jn_sigtable.specs.Machine.{AreBetween, dirty_words};
 ghost use Rattle.jn_worklist.specs.Drains.{IsDirtyOrClosed};
 
+use crate::closing::open_bodies;
 use jn_base::OutOfMemory;
 use jn_sigtable::Constraints;
 use jn_worklist::{drain, plan};
 use std::alloc::Global;
 
 /// The least words above the start, found on one thread from words that lie between. `dirty` has one word for each 64 bodies begun: a
-/// body whose bit is not set there is not run before a word that it reads gets a new bit, so it has to be closed under the words.
+/// body whose bit is not set there is not run before a word that it reads gets a new bit, so it has to be closed under the words. Who reads which word is
+/// asked only where a dirty body isn't closed under the words.
 ///
 /// # Errors
 /// No memory was found.
@@ -29,7 +31,11 @@ pub fn resume<C: Constraints>(
     ensures { IfOk result (λ found. found.items ≡ least (C.describe system.now) start.now) }
 {
     let _start = start;
+    let left = open_bodies(alloc, system, words.as_slice(), dirty.as_slice())?;
+    if !left.any {
+        return Ok(words);
+    }
     let plan = plan(alloc, system)?;
-    let drained = drain(alloc, system, &plan, words, dirty)?;
+    let drained = drain(alloc, system, &plan, words, left.bodies)?;
     Ok(drained)
 }

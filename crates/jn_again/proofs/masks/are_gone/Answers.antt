@@ -1,10 +1,10 @@
 use Rattle.std.proofs.Common.{◌<◌, length, get_or, arith, bit_or}
 use Rattle.std.specs.Prelude.{slice_index}
-use Rattle.jn_again.proofs.Gone.{each_gone, output_at}
+use Rattle.jn_resume.proofs.AtRest.{each_within, output_at}
 use Rattle.jn_again.proofs.masks.are_gone.Goals as goal
 
 pub loop-at-preserved : goal.loop-at-preserved
 loop-at-preserved c =
     let inside : c.loop-at.at < length c.args.puts.now = let t = c.loop-at-test.true in omega arith in
     let o = get_or c.args.puts.now c.loop-at.at (record { 0 = 0 }, 0) in
-    each_gone c.args.puts.now c.loop-at.at o (λ w. bit_or (slice_index c.args.start.now w) (slice_index c.args.lost.now w)) (output_at c.args.puts.now c.loop-at.at (record { 0 = 0 }, 0) inside) (c.is_one_gone.ensures c.if-not-is_one_gone.false) c.loop-at.invariant
+    each_within c.args.puts.now c.loop-at.at o (λ w. bit_or (slice_index c.args.start.now w) (slice_index c.args.lost.now w)) (output_at c.args.puts.now c.loop-at.at (record { 0 = 0 }, 0) inside) (c.is_one_gone.ensures c.if-not-is_one_gone.false) c.loop-at.invariant

@@ -1,7 +1,8 @@
 use Rattle.std.proofs.Common.{◌≡◌, ℕ, ◌<◌, length, get_or, bit_and, bit_or, bit_xor, sym, subst, arith}
 use Rattle.std.specs.Prelude.{slice_index}
 use Rattle.jn_sigtable.specs.System.{Within, bits_for}
-use Rattle.jn_again.proofs.Gone.{gone_more, grows_on, one_lost, output_at}
+use Rattle.jn_resume.proofs.AtRest.{output_at}
+use Rattle.jn_again.proofs.Gone.{gone_more, grows_on, one_lost}
 use Rattle.jn_again.proofs.masks.lose.Goals as goal
 
 pub loop-at-preserved : goal.loop-at-preserved

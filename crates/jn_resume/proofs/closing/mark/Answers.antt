@@ -1,6 +1,6 @@
 use Rattle.std.proofs.Common.{inl, inr, refl}
 use Rattle.jn_worklist.proofs.RaiseSteps.{bit_set}
-use Rattle.jn_again.proofs.dirty.mark.Goals as goal
+use Rattle.jn_resume.proofs.closing.mark.Goals as goal
 
 pub returns-clause-kept : goal.returns-clause-kept
 returns-clause-kept c = λ x due. (bit_set c.args.dirty.now c.args.body.0 _ c.requires refl x).1 (inl due)
