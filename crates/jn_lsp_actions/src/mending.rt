@@ -63,16 +63,18 @@ pub fn comes(slot: u32, slots: &[u32]) -> bool
     false
 }
 
-/// Puts a diagnostic after the others, where its row has the slot.
+/// Puts a diagnostic after the others, where the slot is among those of its row.
 fn push_if(
     made: &mut Seq<Diagnostic>,
     alloc: Global,
-    has: bool,
+    slot: u32,
+    slots: &[u32],
     one: &Diagnostic,
 ) -> Result<(), AllocError>
-    ensures { OnOk result (made.new ≡ made.old ++ cond has (one.now ∷ []) []) }
+    ensures { OnOk result
+        (made.new ≡ made.old ++ cond (spec.comes slot slots.now) (one.now ∷ []) []) }
 {
-    if has {
+    if comes(slot, slots) {
         made.push(one.copy(alloc)?)
     } else {
         Ok(())
@@ -95,7 +97,7 @@ pub fn mended(alloc: Global, mending: &Mending, slot: u32) -> Result<Seq<Diagnos
         match left {
             [] => return Ok(made),
             [first, others @ ..] => {
-                push_if(&mut made, alloc, comes(slot, slots.as_slice()), first)?;
+                push_if(&mut made, alloc, slot, slots.as_slice(), first)?;
                 rest = more;
                 left = others;
             }
