@@ -65,7 +65,9 @@ module _ (P : Program) (row : Row) where
     where
       go : (o : Option Body) → body_at P b ≡ o → Has (program_found P) row
       go None is = absurd (none_is pt (ap (λ (z : Option Body). slice_get (points_of z) p) (sym is) ∙ e))
-      go (Some body) is = in_bodies 0 P.bodies b body is (in_points b body.points p pt (ap (λ (z : Option Body). slice_get (points_of z) p) (sym is) ∙ e) h)
+      go (Some body) is =
+          let same : b ≡ 0 + b = omega arith in
+          in_bodies 0 P.bodies b body is (subst (λ k. Has (points_found P k body.points) row) same (in_points b body.points p pt (ap (λ (z : Option Body). slice_get (points_of z) p) (sym is) ∙ e) h))
 
   of_type : TypeRow P row → row.code ≡ J7 → Has (program_found P) row
   of_type t c = in_program t.b t.p t.pt t.there (subst (λ xs. Contains xs row) (kind_same P t.b t.pt.kind) (in_filter is_type_row (type_rows P t.b t.pt.kind) row t.broken (ap is_of_types c)))
@@ -100,7 +102,7 @@ module _ (P : Program) where
   of_base : (row : Row) → IsBaseRow P row → row.code ≡ J7 → Has (program_found P) row
   of_base row base c = ⊎_elim (λ t. of_type P row t c) (λ o. ⊎_elim (λ u. absurd (not_unassigned row u c)) (λ r. absurd (not_result row r c)) o) base
 
-span_of : Row → Span
+abbrev span_of : Row → Span
 span_of row = row.span
 
 module _ (names : List (List ℕ)) (P : Program) where
@@ -109,7 +111,7 @@ module _ (names : List (List ℕ)) (P : Program) where
   spans (m ∷ ms) = ap (λ xs. m.span ∷ xs) (spans ms)
 
   noted : (row : Row) → Has (program_found P) row → Contains (map note_span (program_notes names P)) row.span
-  noted row h = subst (λ xs. Contains xs row.span) (sym (spans (program_found P))) (in_map span_of (map row_of (program_found P)) row h)
+  noted row h = subst (λ (xs : List Span). Contains xs row.span) (sym (spans (program_found P))) (in_map span_of (map row_of (program_found P)) row h)
 
 -- of files without a row before
 pub all_noted : (names : List (List ℕ)) (infer : Infer) (trees : List PlacedFile) (row : Row) → (IsBaseRow (inferring infer trees) row ↔ IsBaseRow (program_of_files trees) row) → t_rows (heads trees) ≡ [] → j_rows trees ≡ [] → IsBaseRow (inferring infer trees) row → row.code ≡ J7 → Contains (map note_span (type_notes names trees)) row.span

@@ -47,7 +47,7 @@ module _ (names : List (List ℕ)) (P : Program) where
   front_words (Array e nullable) = elem_words e
 
   -- a type as it is written, as a word of code (JLS 8, 4.2 and 4.3)
-  abbrev pub quoted : BaseType → List ℕ
+  unfoldable pub quoted : BaseType → List ℕ
   quoted t = codes "`" ++ front_words t ++ back_words t ++ codes "`"
 
   -- what is wanted

@@ -68,6 +68,7 @@ fn back_words(base: BaseType) -> &'static str
 }
 
 /// A type as a word of code.
+#[tactic(auto, unfolding(crate::specs::Wording::quoted))]
 fn quoted(
     alloc: Global,
     names: &Names,
