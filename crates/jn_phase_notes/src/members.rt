@@ -183,6 +183,7 @@ pub(crate) fn clashing(
 ) -> Result<Option<Identifier>, AllocError>
     ensures { IfOk result (λ other. other ≡ spec.clashing program.now span) }
 {
+    program.facts();
     let Some(m) = method_there(program.program().methods.as_slice(), span) else {
         return Ok(None);
     };
@@ -226,6 +227,7 @@ fn lacking_of(program: &IndexedProgram, class: ClassNo) -> Option<Identifier>
 pub(crate) fn lacking(program: &IndexedProgram, span: Span) -> Option<Identifier>
     ensures { result ≡ spec.lacking program.now span }
 {
+    program.facts();
     let c = class_there(program.program().classes.as_slice(), span)?;
     lacking_of(program, ClassNo(c as u32))
 }
