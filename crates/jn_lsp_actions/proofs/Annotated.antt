@@ -57,7 +57,7 @@ unfolding with_lines
 no_lines text ts tree words = refl
 
 -- with as many slots as words, all words are shown that stand in the range
-without_why : List SlotHint → List Hint
+abbrev without_why : List SlotHint → List Hint
 without_why shown = map (λ (one : SlotHint). bare one.hint) shown
 
 one_shown : (encoding : Encoding) (text : List ℕ) (range : Range) (slot : ℕ) (words : Insertion) (b : Bool) (l : List SlotHint) (r : List Hint) → without_why l ≡ r
