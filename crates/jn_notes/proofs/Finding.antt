@@ -1,26 +1,21 @@
 -- The first item, number by number, operand by operand and slot by slot.
-use Rattle.std.proofs.Common.{◌≡◌, ◌⊎◌, inl, inr, ℕ, zero, suc, ◌+◌, ◌<◌, ◌≤◌, true, false, List, [], ◌∷◌, length, drop, map, Option, Some, None, refl, sym, ap, ◌∙◌, subst, arith, add-one}
+use Rattle.std.proofs.Common.{◌≡◌, ◌⊎◌, inl, inr, ℕ, zero, suc, ◌+◌, ◌<◌, ◌≤◌, true, false, List, [], ◌∷◌, length, drop, Option, Some, None, refl, sym, ap, ◌∙◌, subst, arith, add-one}
 use Rattle.std.specs.Prelude.{is_some, slice_get, slice_index_or}
 use Rattle.std.proofs.lemmas.Bool.{cases_lt, false≢true}
 use Rattle.std.proofs.lemmas.List.{drop_more}
 use Rattle.jn_base.specs.declared.number.SlotNo.{SlotNo}
-use Rattle.jn_base.specs.declared.place.Span.{Span}
 use Rattle.jn_quals.specs.Qualifier.{Qualifier}
 use Rattle.jn_points.specs.declared.point.Operand.{Operand}
 use Rattle.jn_points.specs.declared.point.Point.{Point}
 use Rattle.jn_points.specs.declared.program.Program.{Program}
-use Rattle.jn_points.specs.Lookup.{body_at, method_at, points_of}
+use Rattle.jn_points.specs.Lookup.{body_at, points_of}
 use Rattle.jn_env.specs.Environment.{Env}
 use Rattle.jn_env.specs.Order.{Table, env_in}
-use Rattle.jn_transfer.specs.Pairs.{overriders, under}
-use Rattle.jn_contrib.specs.declared.listed.Overrider.{Overrider}
-use Rattle.jn_contrib.specs.Entries.{AreOverriders}
 use Rattle.jn_reasons_law.specs.declared.item.Item.{Item}
 use Rattle.jn_sigs.specs.Signature.{slot_qual, slot_quals}
 use Rattle.jn_notes.specs.Asks.{Ask, ask, ask_args, ask_each}
 use Rattle.jn_notes.specs.declared.reads.Sought.{Sought}
-use Rattle.jn_notes.specs.declared.pairs.Part.{Part}
-use Rattle.jn_notes.specs.Asked.{or_item, first_item, by_ask, by_asks, by_point, by_number, lacking, some_lacking, by_under, by_overriders}
+use Rattle.jn_notes.specs.Asked.{or_item, first_item, by_ask, by_asks, by_point, by_number, lacking, some_lacking}
 
 pub item_or_none : (x : Option Item) → or_item x None ≡ x
 item_or_none None = refl
@@ -198,24 +193,3 @@ module _ (s : List Qualifier) where
       by : (length xs ≤ n) ⊎ (length ys ≤ n) → (length xs ≤ i) ⊎ (length ys ≤ i)
       by (inl l) = inl (omega (arith, l, le))
       by (inr r) = inr (omega (arith, r, le))
-
-pub method_there : (list : List Overrider) (j : ℕ) (d : Overrider) → j < length list → slice_index_or (map (λ (o : Overrider). o.method) list) j 0 ≡ (slice_index_or list j d).method
-method_there [] j d lt = absurd (omega (arith, lt))
-method_there (x ∷ list) zero d lt = refl
-method_there (x ∷ list) (suc j) d lt = method_there list j d (omega (arith, lt))
-
-length_methods : (list : List Overrider) → length (map (λ (o : Overrider). o.method) list) ≡ length list
-length_methods [] = refl
-length_methods (x ∷ list) = ap suc (length_methods list)
-
-pub as_many : (P : Program) (list : List Overrider) → AreOverriders P list → length list ≡ length (overriders P)
-as_many P list h = sym (length_methods list) ∙ ap (λ (ms : List ℕ). length ms) h.methods
-
--- an overrider of the list is the program's
-pub overrider_is : (P : Program) (s : List Qualifier) (span : Span) (part : Part) (list : List Overrider) (j : ℕ) (o : Overrider) (r : Option Item)
-    → AreOverriders P list → j < length list → o ≡ slice_index_or list j o
-    → r ≡ by_under P s span part (method_at P o.method) o.under → r ≡ by_overriders P s span part j
-overrider_is P s span part list j o r h lt e is =
-    let m : o.method ≡ slice_index_or (overriders P) j 0 = ap (λ (x : Overrider). x.method) e ∙ sym (method_there list j o lt) ∙ ap (λ (ms : List ℕ). slice_index_or ms j 0) h.methods in
-    let u : o.under ≡ under P o.method = h.under j o (there Overrider list j o lt ∙ sym (ap Some e)) in
-    is ∙ ap (by_under P s span part (method_at P o.method)) u ∙ ap (λ (n : ℕ). by_under P s span part (method_at P n) (under P n)) m

@@ -1,7 +1,10 @@
 mod Alike
+mod Apart
 mod Finding
+mod Firsts
 mod Lacking
 mod Leaving
+mod Nearby
 mod Noting
 mod Solving
 mod Speaking

@@ -4,25 +4,20 @@ use Rattle.std.specs.Prelude.{is_some, slice_get, slice_index_or}
 use Rattle.std.proofs.lemmas.Bool.{cases_lt, false≢true}
 use Rattle.std.proofs.lemmas.List.{drop_more}
 use Rattle.jn_base.specs.declared.number.SlotNo.{SlotNo}
-use Rattle.jn_base.specs.declared.place.Span.{Span}
 use Rattle.jn_quals.specs.Qualifier.{Qualifier}
 use Rattle.jn_points.specs.declared.point.Operand.{Operand}
 use Rattle.jn_points.specs.declared.point.Point.{Point}
 use Rattle.jn_points.specs.declared.program.Program.{Program}
-use Rattle.jn_points.specs.Lookup.{body_at, method_at, points_of}
+use Rattle.jn_points.specs.Lookup.{body_at, points_of}
 use Rattle.jn_env.specs.Environment.{Env}
 use Rattle.jn_env.specs.Order.{Table, env_in}
-use Rattle.jn_transfer.specs.Pairs.{overriders, under}
-use Rattle.jn_contrib.specs.declared.listed.Overrider.{Overrider}
-use Rattle.jn_contrib.specs.Entries.{AreOverriders}
 use Rattle.jn_sigs.specs.Signature.{slot_qual, slot_quals}
 use Rattle.jn_note_words.specs.declared.owners.Owner.{Owner}
 use Rattle.jn_note_words.specs.declared.owners.Owner.TheVariants.{OfParameter}
 use Rattle.jn_notes.specs.declared.reads.Sought.{Sought}
-use Rattle.jn_notes.specs.declared.pairs.Part.{Part}
 use Rattle.jn_note_words.specs.Owned.{first_owner, or_owner}
-use Rattle.jn_notes.specs.Spoken.{Pass, pass, pass_args, by_pass, by_passes, taker_by, taker_at, if_outside, first_outside, changed_by, overridden_at}
-use Rattle.jn_notes.proofs.Finding.{method_there, there}
+use Rattle.jn_notes.specs.Spoken.{Pass, pass, pass_args, by_pass, by_passes, taker_by, taker_at, if_outside, first_outside}
+use Rattle.jn_notes.proofs.Finding.{there}
 
 pub owner_or_none : (x : Option Owner) → or_owner x None ≡ x
 owner_or_none None = refl
@@ -173,12 +168,3 @@ module _ (k : ℕ) (s : List Qualifier) where
       by : (length xs ≤ n) ⊎ (length ys ≤ n) → (length xs ≤ i) ⊎ (length ys ≤ i)
       by (inl l) = inl (omega (arith, l, le))
       by (inr r) = inr (omega (arith, r, le))
-
--- an overrider of the list is the program's
-pub changer_is : (P : Program) (s : List Qualifier) (span : Span) (part : Part) (list : List Overrider) (j : ℕ) (o : Overrider) (r : Option Owner)
-    → AreOverriders P list → j < length list → o ≡ slice_index_or list j o
-    → r ≡ changed_by P s span part (method_at P o.method) o.under → r ≡ overridden_at P s span part j
-changer_is P s span part list j o r h lt e is =
-    let m : o.method ≡ slice_index_or (overriders P) j 0 = ap (λ (x : Overrider). x.method) e ∙ sym (method_there list j o lt) ∙ ap (λ (ms : List ℕ). slice_index_or ms j 0) h.methods in
-    let u : o.under ≡ under P o.method = h.under j o (there Overrider list j o lt ∙ sym (ap Some e)) in
-    is ∙ ap (changed_by P s span part (method_at P o.method)) u ∙ ap (λ (n : ℕ). changed_by P s span part (method_at P n) (under P n)) m

@@ -5,3 +5,4 @@ pub mod Voids
 pub mod Unkept
 pub mod Spoken
 pub mod Noted
+pub mod Found

@@ -2,7 +2,7 @@
 ghost use Rattle.std.specs.Prelude.{◌≡◌, length, Some};
 ghost use Rattle.jn_points.specs.Lookup.{method_at};
 ghost use Rattle.jn_sigs.specs.Signature.{slot_quals};
-ghost use Rattle.jn_contrib.specs.Entries.{AreOverriders};
+ghost use Rattle.jn_sites.specs.Near.{AreNear};
 ghost use Rattle.jn_note_words.specs.Owned.{first_owner};
 ghost use Rattle.jn_notes.specs.Spoken as spec;
 
@@ -142,7 +142,7 @@ pub fn overridden_of(
     program: &Program,
     overriders: &[Overrider],
 ) -> Option<Owner>
-    requires overriders { AreOverriders program.now overriders.now }
+    requires overriders { AreNear program.now span overriders.now }
     ensures { result ≡ spec.overridden_of program.now sig.now span part }
 {
     for j in 0..overriders.len() {

@@ -4,12 +4,19 @@ ghost use Rattle.jn_contrib.specs.Entries.{AreOverriders};
 ghost use Rattle.jn_tables_law.specs.Inferable.{IsInferable};
 ghost use Rattle.jn_inference_law.specs.Solution.{IsLeastSignature};
 ghost use Rattle.jn_reasons_law.specs.Chains.{HasChain};
+ghost use Rattle.jn_chain.specs.Keys.{rest_of};
+ghost use Rattle.jn_chain.specs.Search.{AreRests};
+ghost use Rattle.jn_contrib.specs.declared.listed.Overrider.{Overrider as OverriderOf};
+ghost use Rattle.jn_sites.specs.Marks.{AreSites};
+ghost use Rattle.jn_sites.specs.Near.{AreNear, near};
+ghost use Rattle.jn_sites.specs.Sites.{AreKept};
 ghost use Rattle.jn_notes.specs.Asked.{item_of};
 ghost use Rattle.jn_notes.specs.Noted.{AreBy, AreEach, AreFrom, AreLeastTables, AreNotes, AreNotesOf, before_last, headed, last_of, left_out, most_shown, no_notes, note_of, noted};
 ghost use Rattle.jn_note_words.specs.Owned.{AreOwners};
 ghost use Rattle.jn_reasons_law.specs.Choice.{IsFirstChain};
 ghost use Rattle.jn_origins.specs.Standing.{AreSized};
 
+use crate::found::register_item_at;
 use crate::pairs::{part_of, slot_item};
 use crate::reads::{register_item, sought_of};
 use crate::tables::least_tables;
@@ -18,7 +25,7 @@ use crate::unkept::preceded;
 use crate::voids::find_voids;
 use jn_base::lists::put;
 use jn_base::{OutOfMemory, Row, Seq};
-use jn_chain::{first_chain, told};
+use jn_chain::{Chains, next_first_chain, told};
 use jn_contrib::{Overrider, overriders};
 use jn_env::FlowTable;
 use jn_index::indexed::IndexedProgram;
@@ -29,8 +36,10 @@ use jn_note_words::words::step_words;
 use jn_origins::LeastOrigins;
 use jn_origins::law::{least_tables_are_sized, what_stands_has_a_chain};
 use jn_points::Program;
+use jn_reasons::Spot;
 use jn_reasons_law::{Item, Step};
 use jn_sigs::Sig;
+use jn_sites::{Sites, find_near, find_sites, overriders_at, spans_of};
 use jn_tables_law::law::rounds_give_the_least_table;
 use jn_trees::Names;
 use std::alloc::{AllocError, Global};
@@ -189,20 +198,43 @@ pub fn item_of(
     }
 }
 
-/// The first chain from an item.
+/// The same by what is kept for the row's place: the overriders that stand there, and the points at which a value stands there.
+pub fn item_at(
+    program: &Program,
+    sig: &Sig,
+    tables: &[FlowTable],
+    overriders: &[Overrider],
+    sites: &Sites<Spot>,
+    row: Row,
+) -> Option<Item>
+    requires inferable { IsInferable program.now }
+    requires overriders { AreNear program.now row.span overriders.now }
+    requires sites { AreSites program.now sites.now }
+    ensures { result ≡ item_of program.now sig.now row tables.now }
+{
+    match sought_of(row) {
+        None => slot_item(sig, row.span, part_of(row.code), program, overriders),
+        Some(sought) => register_item_at(sought, sites, program, sig, tables),
+    }
+}
+
+/// The first chain from an item, with what is known of chains.
 fn chain_from(
     alloc: Global,
     program: &Program,
     origins: &LeastOrigins,
+    chains: &mut Chains,
     item: Item,
 ) -> Result<Vec<Step>, OutOfMemory>
     requires program { origins.now.program ≡ program.now }
+    requires rests { AreRests origins.now (rest_of chains.old) }
     requires chain { HasChain program.now origins.now.sig origins.now.tables item }
-    ensures { IfOk result (λ steps.
+    ensures rests { IfOk result (λ steps. AreRests origins.now (rest_of chains.new)) }
+    ensures first { IfOk result (λ steps.
         IsFirstChain program.now origins.now.sig origins.now.tables item steps.items) }
 {
     let _program = program;
-    first_chain(alloc, origins, item)
+    next_first_chain(alloc, origins, chains, item)
 }
 
 /// The notes of a chain.
@@ -224,6 +256,35 @@ fn notes_by(
     let told = told(alloc, steps)?;
     let voids = find_voids(alloc, program, names, sig, tables, steps)?;
     let notes = noted(alloc, program, names, owners, voids, &told)?;
+    Ok(notes)
+}
+
+/// The notes of an item from which a chain goes, with what is known of chains.
+fn next_notes_from(
+    alloc: Global,
+    program: &Program,
+    names: &Names,
+    sig: &Sig,
+    tables: &[FlowTable],
+    origins: &LeastOrigins,
+    chains: &mut Chains,
+    owners: &[Option<Owner>],
+    item: Item,
+) -> Result<Notes, OutOfMemory>
+    requires inferable { IsInferable program.now }
+    requires sized { AreSized program.now tables.now }
+    requires program { origins.now.program ≡ program.now }
+    requires sig { origins.now.sig ≡ sig.now }
+    requires tables { origins.now.tables ≡ tables.now }
+    requires rests { AreRests origins.now (rest_of chains.old) }
+    requires chain { HasChain program.now origins.now.sig origins.now.tables item }
+    requires owners { AreOwners program.now owners.now }
+    ensures rests { IfOk result (λ notes. AreRests origins.now (rest_of chains.new)) }
+    ensures notes { IfOk result
+        (λ notes. AreFrom program.now names.now sig.now tables.now (Some item) notes) }
+{
+    let steps = chain_from(alloc, program, origins, chains, item)?;
+    let notes = notes_by(alloc, program, names, sig, tables, owners, &steps)?;
     Ok(notes)
 }
 
@@ -250,8 +311,19 @@ pub fn notes_from(
     requires owners { AreOwners program.now owners.now }
     ensures { IfOk result (λ notes. AreFrom program.now names.now sig.now tables.now (Some item) notes) }
 {
-    let steps = chain_from(alloc, program, origins, item)?;
-    notes_by(alloc, program, names, sig, tables, owners, &steps)
+    let mut chains = Chains::new(alloc);
+    let notes = next_notes_from(
+        alloc,
+        program,
+        names,
+        sig,
+        tables,
+        origins,
+        &mut chains,
+        owners,
+        item,
+    )?;
+    Ok(notes)
 }
 
 /// The notes of a row's item.
@@ -261,28 +333,33 @@ fn notes_behind(
     names: &Names,
     sig: &Sig,
     tables: &[FlowTable],
-    overriders: &[Overrider],
     origins: &LeastOrigins,
+    chains: &mut Chains,
     owners: &[Option<Owner>],
     row: Row,
+    item: Option<Item>,
 ) -> Result<Notes, OutOfMemory>
     requires inferable { IsInferable program.now }
     requires least { IsLeastSignature program.now sig.now }
     requires solved { AreLeastTables program.now sig.now tables.now }
-    requires overriders { AreOverriders program.now overriders.now }
     requires program { origins.now.program ≡ program.now }
     requires sig { origins.now.sig ≡ sig.now }
     requires tables { origins.now.tables ≡ tables.now }
+    requires rests { AreRests origins.now (rest_of chains.old) }
     requires owners { AreOwners program.now owners.now }
-    ensures { IfOk result
-        (λ notes. AreFrom program.now names.now sig.now tables.now
-        (item_of program.now sig.now row tables.now) notes) }
+    requires item { item ≡ item_of program.now sig.now row tables.now }
+    ensures rests { IfOk result (λ notes. AreRests origins.now (rest_of chains.new)) }
+    ensures notes { IfOk result
+        (λ notes. AreFrom program.now names.now sig.now tables.now item notes) }
 {
     what_stands_has_a_chain();
     least_tables_are_sized();
-    match item_of(program, sig, tables, overriders, row) {
+    let _row = row;
+    match item {
         None => Ok(no_notes(alloc)),
-        Some(item) => notes_from(alloc, program, names, sig, tables, origins, owners, item),
+        Some(item) => next_notes_from(
+            alloc, program, names, sig, tables, origins, chains, owners, item,
+        ),
     }
 }
 
@@ -335,25 +412,30 @@ fn notes_of(
     tables: &[FlowTable],
     overriders: &[Overrider],
     origins: &LeastOrigins,
+    chains: &mut Chains,
+    sites: &Sites<Spot>,
     owners: &[Option<Owner>],
     row: Row,
 ) -> Result<Notes, OutOfMemory>
     requires inferable { IsInferable program.now }
     requires least { IsLeastSignature program.now sig.now }
     requires solved { AreLeastTables program.now sig.now tables.now }
-    requires overriders { AreOverriders program.now overriders.now }
+    requires overriders { AreNear program.now row.span overriders.now }
     requires program { origins.now.program ≡ program.now }
     requires sig { origins.now.sig ≡ sig.now }
     requires tables { origins.now.tables ≡ tables.now }
+    requires rests { AreRests origins.now (rest_of chains.old) }
+    requires sites { AreSites program.now sites.now }
     requires owners { AreOwners program.now owners.now }
-    ensures { IfOk result
+    ensures rests { IfOk result (λ notes. AreRests origins.now (rest_of chains.new)) }
+    ensures notes { IfOk result
         (λ notes. AreNotes program.now names.now sig.now tables.now row notes) }
 {
-    let topics = topics_of(alloc, program, sig, tables, overriders, row)?;
+    let topics = topics_of(alloc, program, sig, tables, overriders, sites, row)?;
+    let item = item_at(program, sig, tables, overriders, sites, row);
     let behind = notes_behind(
-        alloc, program, names, sig, tables, overriders, origins, owners, row,
+        alloc, program, names, sig, tables, origins, chains, owners, row, item,
     )?;
-    let item = item_of(program, sig, tables, overriders, row);
     let behind = preceded(alloc, program, item, behind)?;
     let notes = headed(alloc, program, names, row, &topics, behind)?;
     Ok(notes)
@@ -368,6 +450,8 @@ fn notes_of_each(
     tables: &[FlowTable],
     overriders: &[Overrider],
     origins: &LeastOrigins,
+    places: &Sites<Overrider>,
+    sites: &Sites<Spot>,
     owners: &[Option<Owner>],
     rows: &[Row],
 ) -> Result<Vec<Notes>, OutOfMemory>
@@ -378,14 +462,27 @@ fn notes_of_each(
     requires program { origins.now.program ≡ program.now }
     requires sig { origins.now.sig ≡ sig.now }
     requires tables { origins.now.tables ≡ tables.now }
+    requires places { AreKept OverriderOf (near program.now overriders.now) places.now }
+    requires sites { AreSites program.now sites.now }
     requires owners { AreOwners program.now owners.now }
     ensures { IfOk result
         (λ notes. AreEach program.now names.now sig.now tables.now rows.now notes.items) }
 {
+    let mut chains = Chains::new(alloc);
     let mut list = Vec::new(alloc);
     for row in rows {
         let notes = notes_of(
-            alloc, program, names, sig, tables, overriders, origins, owners, *row,
+            alloc,
+            program,
+            names,
+            sig,
+            tables,
+            overriders_at(places, program, overriders, row.span),
+            origins,
+            &mut chains,
+            sites,
+            owners,
+            *row,
         )?;
         put(&mut list, notes)?;
     }
@@ -435,6 +532,9 @@ fn notes_of_some(
     let tables = least_tables(alloc, program.program(), sig)?;
     let overriders = overriders(alloc, program)?;
     let owners = find_owners(alloc, program.program())?;
+    let spans = spans_of(alloc, rows)?;
+    let places = find_near(alloc, program.program(), &overriders, &spans)?;
+    let sites = find_sites(alloc, program.program(), &spans)?;
     let origins = LeastOrigins::new(alloc, program, sig, &tables)?;
     notes_of_each(
         alloc,
@@ -444,6 +544,8 @@ fn notes_of_some(
         &tables,
         &overriders,
         &origins,
+        &places,
+        &sites,
         &owners,
         rows,
     )

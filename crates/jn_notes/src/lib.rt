@@ -2,11 +2,12 @@
 //! the text for each.
 //!
 //! [`notes_of_rows`] finds what takes the value of each row, what is overridden or left unassigned there ([`topics`]), and the first chain of causes of
-//! the value ([`jn_chain::first_chain`]), and says in words what is told of these. Rows of what is whole where the other is taken have no chain.
+//! the value ([`jn_chain::next_first_chain`]), and says in words what is told of these. Rows of what is whole where the other is taken have no chain.
 #![tactic(auto)]
 
 pub mod changes;
 pub mod explain;
+pub mod found;
 pub mod law;
 pub mod lefts;
 pub mod pairs;

@@ -1,7 +1,7 @@
 //! Slots of overriding methods that have a bit which their partners lack.
 ghost use Rattle.std.specs.Prelude.{◌≡◌, length, None, Some};
 ghost use Rattle.jn_points.specs.Lookup.{method_at};
-ghost use Rattle.jn_contrib.specs.Entries.{AreOverriders};
+ghost use Rattle.jn_sites.specs.Near.{AreNear};
 ghost use Rattle.jn_notes.specs.Asked.{by_lower, by_override, by_part, by_under, first_item, lacking, lacking_bit, part_of, slot_item, some_lacking};
 
 use crate::reads::{or_item, same_span};
@@ -150,7 +150,7 @@ fn by_overriders(
     program: &Program,
     overriders: &[Overrider],
 ) -> Option<Item>
-    requires overriders { AreOverriders program.now overriders.now }
+    requires overriders { AreNear program.now span overriders.now }
     ensures { result ≡ slot_item program.now sig.now span (Some part) }
 {
     for j in 0..overriders.len() {
@@ -162,7 +162,7 @@ fn by_overriders(
     None
 }
 
-/// The slot that a row of an overriding pair speaks of.
+/// The slot that a row of an overriding pair speaks of, by the overriders that stand at its place.
 pub fn slot_item(
     sig: &Sig,
     span: Span,
@@ -170,7 +170,7 @@ pub fn slot_item(
     program: &Program,
     overriders: &[Overrider],
 ) -> Option<Item>
-    requires overriders { AreOverriders program.now overriders.now }
+    requires overriders { AreNear program.now span overriders.now }
     ensures { result ≡ slot_item program.now sig.now span part }
 {
     match part {

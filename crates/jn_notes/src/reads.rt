@@ -470,7 +470,7 @@ fn by_kind(
 }
 
 /// A point, where it is reached.
-fn by_point(
+pub(crate) fn by_point(
     sought: Sought,
     program: &Program,
     sig: &Sig,

@@ -243,7 +243,7 @@ fn by_kind(
 }
 
 /// At a point, where it is reached.
-fn by_point(
+pub(crate) fn by_point(
     sought: Sought,
     program: &Program,
     sig: &Sig,

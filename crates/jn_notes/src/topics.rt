@@ -1,14 +1,15 @@
 //! The declarations that a row speaks of, and their words.
 ghost use Rattle.std.specs.Prelude.{◌≡◌, ◌++◌, IfOk, OnOk, map};
-ghost use Rattle.jn_contrib.specs.Entries.{AreOverriders};
 ghost use Rattle.jn_tables_law.specs.Inferable.{IsInferable};
+ghost use Rattle.jn_sites.specs.Marks.{AreSites};
+ghost use Rattle.jn_sites.specs.Near.{AreNear};
 ghost use Rattle.jn_notes.specs.Spoken as spec;
 
 use crate::changes::overridden_of;
+use crate::found::taker_at;
 use crate::lefts::put_lefts;
 use crate::pairs::{Part, part_of};
 use crate::reads::{Sought, same_span, sought_of};
-use crate::takers::taker;
 use jn_base::lists::put;
 use jn_base::{OutOfMemory, Row, Seq, Span};
 use jn_contrib::Overrider;
@@ -18,7 +19,9 @@ use jn_note_words::owners::Owner;
 use jn_note_words::spans::owner_span;
 use jn_note_words::words::{add, field_name, owner_words};
 use jn_points::Program;
+use jn_reasons::Spot;
 use jn_sigs::Sig;
+use jn_sites::Sites;
 use jn_trees::Names;
 use std::alloc::{AllocError, Global};
 
@@ -48,15 +51,17 @@ fn put_takes(
     program: &Program,
     sig: &Sig,
     tables: &[FlowTable],
+    sites: &Sites<Spot>,
     sought: Option<Sought>,
 ) -> Result<(), AllocError>
     requires inferable { IsInferable program.now }
+    requires sites { AreSites program.now sites.now }
     ensures { OnOk result (topics.new.items
         ≡ topics.old.items ++ spec.takes_of program.now sig.now sought tables.now) }
 {
     match sought {
         None => Ok(()),
-        Some(sought) => put_taker(topics, taker(sought, program, sig, tables)),
+        Some(sought) => put_taker(topics, taker_at(sought, sites, program, sig, tables)),
     }
 }
 
@@ -78,7 +83,7 @@ fn put_overridden(
     span: Span,
     part: Option<Part>,
 ) -> Result<(), AllocError>
-    requires overriders { AreOverriders program.now overriders.now }
+    requires overriders { AreNear program.now span overriders.now }
     ensures { OnOk result (topics.new.items
         ≡ topics.old.items ++ spec.overrides_of program.now sig.now span part) }
 {
@@ -98,15 +103,17 @@ pub(crate) fn topics_of(
     sig: &Sig,
     tables: &[FlowTable],
     overriders: &[Overrider],
+    sites: &Sites<Spot>,
     row: Row,
 ) -> Result<Vec<Topic>, OutOfMemory>
     requires inferable { IsInferable program.now }
-    requires overriders { AreOverriders program.now overriders.now }
+    requires overriders { AreNear program.now row.span overriders.now }
+    requires sites { AreSites program.now sites.now }
     ensures { IfOk result
         (λ topics. topics.items ≡ spec.topics_of program.now sig.now row tables.now) }
 {
     let mut topics = Vec::new(alloc);
-    put_takes(&mut topics, program, sig, tables, sought_of(row))?;
+    put_takes(&mut topics, program, sig, tables, sites, sought_of(row))?;
     put_overridden(
         &mut topics,
         program,

@@ -4,5 +4,7 @@ use Rattle.jn_notes.proofs.explain.notes_of_each.Goals as goal
 
 pub loop-row-preserved : goal.loop-row-preserved
 loop-row-preserved c =
-    let lt : c.loop-row.row-index < length c.args.rows.now = omega (arith, c.loop-row-test.true) in
-    row_more c.args.program.now c.args.names.now c.args.sig.now c.args.tables.now c.args.rows.now c.loop-row.row-index _ c.in_ok-notes.notes c.loop-row.list.items c.put.new.items.items lt c.in_ok-notes.ensures c.in_ok-put.ensures c.loop-row.invariant
+    let lt : c.loop-row.row-index < length c.args.rows.now = omega (arith, c.loop-row-test.true) in (
+      row_more c.args.program.now c.args.names.now c.args.sig.now c.args.tables.now c.args.rows.now c.loop-row.row-index _ c.in_ok-notes.notes c.loop-row.list.items c.put.new.items.items lt c.in_ok-notes.ensures.notes c.in_ok-put.ensures c.loop-row.invariant.0,
+      c.in_ok-notes.ensures.rests,
+    )

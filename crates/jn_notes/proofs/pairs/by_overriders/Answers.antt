@@ -1,24 +1,31 @@
-use Rattle.std.proofs.Common.{◌≡◌, ◌<◌, length, sym, ◌∙◌, arith}
-use Rattle.jn_transfer.specs.Pairs.{overriders}
-use Rattle.jn_notes.proofs.Finding.{as_many, found_is, none_more, overrider_is}
-use Rattle.jn_notes.specs.Asked.{by_overriders}
+use Rattle.std.proofs.Common.{◌≡◌, ◌<◌, ◌≤◌, Some, length, sym, ap, ◌∙◌, arith}
+use Rattle.jn_notes.proofs.Firsts.{next_none, next_found, next_done}
+use Rattle.jn_notes.proofs.Nearby.{near_item, listed_item}
+use Rattle.jn_notes.specs.Asked.{slot_item}
 use Rattle.jn_notes.proofs.pairs.by_overriders.Goals as goal
+
+pub loop-j-init : goal.loop-j-init
+loop-j-init c = near_item c.args.program.now c.args.sig.now c.args.span c.args.part c.args.overriders.now c.requires.overriders
 
 pub returns-then-is_some : goal.returns-then-is_some
 returns-then-is_some c =
-    let P = c.args.program.now in
+    let f = listed_item c.args.program.now c.args.sig.now c.args.span c.args.part in
     let list = c.args.overriders.now in
     let lt : c.loop-j.j < length list = omega (arith, c.loop-j-test.true) in
-    let many : length list ≡ length (overriders P) = as_many P list c.requires.overriders in
-    found_is (by_overriders P c.args.sig.now c.args.span c.args.part) c.loop-j.j (length (overriders P)) c.by_overrider-found.result (omega (arith, lt, many)) c.loop-j.invariant
-    (overrider_is P c.args.sig.now c.args.span c.args.part list c.loop-j.j c.index-overriders-j.result c.by_overrider-found.result c.requires.overriders lt c.index-overriders-j.is c.by_overrider-found.ensures)
-    (sym c.is_some.ensures ∙ c.if-is_some.true)
+    next_found f list c.loop-j.j c.index-overriders-j.result c.by_overrider-found.result (slot_item c.args.program.now c.args.sig.now c.args.span (Some c.args.part)) lt
+    (c.by_overrider-found.ensures ∙ ap f c.index-overriders-j.is) (sym c.is_some.ensures ∙ c.if-is_some.true) c.loop-j.invariant
 
 pub loop-j-preserved : goal.loop-j-preserved
 loop-j-preserved c =
-    let P = c.args.program.now in
+    let f = listed_item c.args.program.now c.args.sig.now c.args.span c.args.part in
     let list = c.args.overriders.now in
     let lt : c.loop-j.j < length list = omega (arith, c.loop-j-test.true) in
-    none_more (by_overriders P c.args.sig.now c.args.span c.args.part) c.loop-j.j c.by_overrider-found.result c.loop-j.invariant
-    (overrider_is P c.args.sig.now c.args.span c.args.part list c.loop-j.j c.index-overriders-j.result c.by_overrider-found.result c.requires.overriders lt c.index-overriders-j.is c.by_overrider-found.ensures)
-    (sym c.is_some.ensures ∙ c.if-is_some.false)
+    next_none f list c.loop-j.j c.index-overriders-j.result c.by_overrider-found.result (slot_item c.args.program.now c.args.sig.now c.args.span (Some c.args.part)) lt
+    (c.by_overrider-found.ensures ∙ ap f c.index-overriders-j.is) (sym c.is_some.ensures ∙ c.if-is_some.false) c.loop-j.invariant
+
+pub returns : goal.returns
+returns c =
+    let f = listed_item c.args.program.now c.args.sig.now c.args.span c.args.part in
+    let list = c.args.overriders.now in
+    let le : length list ≤ c.loop-j.j = omega (arith, c.loop-j-test.false) in
+    next_done f list c.loop-j.j (slot_item c.args.program.now c.args.sig.now c.args.span (Some c.args.part)) le c.loop-j.invariant

@@ -1,6 +1,8 @@
-use Rattle.std.proofs.Common.{◌≡◌, None}
-use Rattle.jn_notes.specs.Asked.{by_overriders, first_item}
+use Rattle.std.proofs.Common.{◌≡◌, Some, drop}
+use Rattle.jn_notes.specs.Asked.{slot_item}
+use Rattle.jn_notes.specs.Found.{first_of}
+use Rattle.jn_notes.proofs.Nearby.{listed_item}
 use Rattle.jn_notes.proofs.pairs.by_overriders.Given as goal
 
 abbrev pub invariant-loop-j : goal.invariant-loop-j
-invariant-loop-j l = first_item (by_overriders l.program l.sig l.span l.part) l.j ≡ None
+invariant-loop-j l = first_of (listed_item l.program l.sig l.span l.part) (drop l.j l.overriders) ≡ slot_item l.program l.sig l.span (Some l.part)
