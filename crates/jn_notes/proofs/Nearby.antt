@@ -60,7 +60,7 @@ module _ {A : Type 0} (f : ℕ → Option A) where
     whole_first : (ms : List ℕ) → first_of f ms ≡ first (at ms) (length ms)
     whole_first ms =
         let low : length ms ≤ length ms = omega arith in
-        ap (first_of f) (sym (take_all ms (length ms) low)) ∙ taken_first ms (length ms) low
+        ap (first_of f) (sym (take_all (length ms) ms low)) ∙ taken_first ms (length ms) low
 
 -- ---- items
 
