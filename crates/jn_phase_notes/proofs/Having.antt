@@ -26,14 +26,13 @@ same_itself x y e = ap (λ (z : Span). same_span x z) (sym e) ∙ itself x.file.
 -- where one stands there
 pub found_at : (notes : List Note) (span : Span) → Contains (map note_span notes) span → (note : Note) × (note_at notes span ≡ Some note)
 found_at [] span h = absurd (none_in span h)
-found_at (n ∷ ns) span h = by (same_span n.span span) refl (in_cases n.span span (map note_span ns) h)
+found_at (n ∷ ns) span h = by (same_span n.span span) refl (in_cases n.span span (map note_span ns) h) (λ c. found_at ns span c)
   where
     never : true ≡ false → ⊥
     never e = cc
-
-    by : (b : Bool) → same_span n.span span ≡ b → (n.span ≡ span) ⊎ Contains (map note_span ns) span → (note : Note) × (cond b (Some n) (note_at ns span) ≡ Some note)
-    by true is k = (n, refl)
-    by false is k = ⊎_elim (λ e. absurd (never (sym (same_itself n.span span e) ∙ is))) (λ c. found_at ns span c) k
+    by : (b : Bool) → same_span n.span span ≡ b → (n.span ≡ span) ⊎ Contains (map note_span ns) span → (Contains (map note_span ns) span → (note : Note) × (note_at ns span ≡ Some note)) → (note : Note) × (cond b (Some n) (note_at ns span) ≡ Some note)
+    by true is k later = (n, refl)
+    by false is k later = ⊎_elim (λ e. absurd (never (sym (same_itself n.span span e) ∙ is))) later k
 
 pub has_note : (names : List (List ℕ)) (trees : List PlacedFile) (row : Row) → row.code ≡ J7 → Contains (map note_span (type_notes names trees)) row.span → (note : Note) × ((row_notes names trees row).shown ≡ note ∷ [])
 has_note names trees row c h =
