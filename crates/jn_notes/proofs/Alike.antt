@@ -18,7 +18,7 @@ use Rattle.jn_note_words.specs.declared.note.Notes.{Notes}
 use Rattle.jn_notes.specs.Asked.{item_of}
 use Rattle.jn_notes.specs.Noted.{headed, noted, AreBy, AreFrom, AreNotes, AreEach, AreLeastTables, AreNotesOf}
 use Rattle.jn_notes.specs.Spoken.{topics_of}
-use Rattle.jn_notes.specs.Unkept.{preceded}
+use Rattle.jn_note_words.specs.Unkept.{preceded}
 use Rattle.jn_notes.specs.Voids.{AreVoids, key_of, read_in, void_notes}
 use Rattle.jn_notes.specs.declared.voids.ReadAt.{ReadAt}
 

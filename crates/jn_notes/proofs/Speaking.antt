@@ -17,7 +17,7 @@ use Rattle.jn_note_words.specs.declared.note.Notes.{Notes}
 use Rattle.jn_notes.specs.declared.topics.Topic.{Topic}
 use Rattle.jn_notes.specs.Asked.{item_of}
 use Rattle.jn_notes.specs.Noted.{headed, AreFrom, AreNotes}
-use Rattle.jn_notes.specs.Unkept.{preceded}
+use Rattle.jn_note_words.specs.Unkept.{preceded}
 use Rattle.jn_notes.specs.Spoken.{leaves, left_from, left_of, all_left, topic_note, topics_of}
 
 -- ---- ends

@@ -2,7 +2,6 @@ pub mod Asks
 pub mod Asked
 pub mod Lacking
 pub mod Voids
-pub mod Unkept
 pub mod Spoken
 pub mod Noted
 pub mod Found

@@ -13,7 +13,7 @@ use Rattle.jn_note_words.specs.declared.note.Notes.{Notes}
 use Rattle.jn_notes.specs.declared.topics.Topic.{Topic}
 use Rattle.jn_notes.specs.Asked.{item_of}
 use Rattle.jn_notes.specs.Spoken.{topic_note, topics_of}
-use Rattle.jn_notes.specs.Unkept.{preceded}
+use Rattle.jn_note_words.specs.Unkept.{preceded}
 use Rattle.jn_notes.specs.Voids.{AreVoids, read_in}
 use Rattle.jn_note_words.specs.Worded.{step_span, step_words}
 

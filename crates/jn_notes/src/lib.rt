@@ -15,7 +15,6 @@ pub mod reads;
 pub mod tables;
 pub mod takers;
 pub mod topics;
-pub mod unkept;
 pub mod voids;
 
 pub use explain::notes_of_rows;

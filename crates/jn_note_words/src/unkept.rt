@@ -1,11 +1,11 @@
 //! The note of a test that isn't kept.
 ghost use Rattle.std.specs.Prelude.{◌≡◌, IfOk, None, Some};
-ghost use Rattle.jn_notes.specs.Unkept as spec;
+ghost use Rattle.jn_note_words.specs.Unkept as spec;
 
+use crate::note::{Note, Notes};
+use crate::spans::point_span;
 use jn_base::lists::put;
 use jn_base::{OutOfMemory, Seq};
-use jn_note_words::note::{Note, Notes};
-use jn_note_words::spans::point_span;
 use jn_points::Program;
 use jn_reasons_law::{Bit, Item};
 use jn_unkept::{Held, Reading, Unkept, find_unkept};
@@ -88,7 +88,7 @@ fn unkept_notes(
 ///
 /// # Errors
 /// No memory was found.
-pub(crate) fn preceded(
+pub fn preceded(
     alloc: Global,
     program: &Program,
     item: Option<Item>,
