@@ -6,10 +6,8 @@ ghost use Rattle.jn_inference_law.specs.Solution.{IsLeastSignature};
 ghost use Rattle.jn_reasons_law.specs.Chains.{HasChain};
 ghost use Rattle.jn_chain.specs.Keys.{rest_of};
 ghost use Rattle.jn_chain.specs.Search.{AreRests};
-ghost use Rattle.jn_contrib.specs.declared.listed.Overrider.{Overrider as OverriderOf};
 ghost use Rattle.jn_sites.specs.Marks.{AreSites};
-ghost use Rattle.jn_sites.specs.Near.{AreNear, near};
-ghost use Rattle.jn_sites.specs.Sites.{AreKept};
+ghost use Rattle.jn_sites.specs.Near.{AreNear};
 ghost use Rattle.jn_notes.specs.Asked.{item_of};
 ghost use Rattle.jn_notes.specs.Noted.{AreBy, AreEach, AreFrom, AreLeastTables, AreNotes, AreNotesOf, before_last, headed, last_of, left_out, most_shown, no_notes, note_of, noted};
 ghost use Rattle.jn_note_words.specs.Owned.{AreOwners};
@@ -450,8 +448,6 @@ fn notes_of_each(
     tables: &[FlowTable],
     overriders: &[Overrider],
     origins: &LeastOrigins,
-    places: &Sites<Overrider>,
-    sites: &Sites<Spot>,
     owners: &[Option<Owner>],
     rows: &[Row],
 ) -> Result<Vec<Notes>, OutOfMemory>
@@ -462,12 +458,13 @@ fn notes_of_each(
     requires program { origins.now.program ≡ program.now }
     requires sig { origins.now.sig ≡ sig.now }
     requires tables { origins.now.tables ≡ tables.now }
-    requires places { AreKept OverriderOf (near program.now overriders.now) places.now }
-    requires sites { AreSites program.now sites.now }
     requires owners { AreOwners program.now owners.now }
     ensures { IfOk result
         (λ notes. AreEach program.now names.now sig.now tables.now rows.now notes.items) }
 {
+    let spans = spans_of(alloc, rows)?;
+    let places = find_near(alloc, program, overriders, &spans)?;
+    let sites = find_sites(alloc, program, &spans)?;
     let mut chains = Chains::new(alloc);
     let mut list = Vec::new(alloc);
     for row in rows {
@@ -477,10 +474,10 @@ fn notes_of_each(
             names,
             sig,
             tables,
-            overriders_at(places, program, overriders, row.span),
+            overriders_at(&places, program, overriders, row.span),
             origins,
             &mut chains,
-            sites,
+            &sites,
             owners,
             *row,
         )?;
@@ -532,9 +529,6 @@ fn notes_of_some(
     let tables = least_tables(alloc, program.program(), sig)?;
     let overriders = overriders(alloc, program)?;
     let owners = find_owners(alloc, program.program())?;
-    let spans = spans_of(alloc, rows)?;
-    let places = find_near(alloc, program.program(), &overriders, &spans)?;
-    let sites = find_sites(alloc, program.program(), &spans)?;
     let origins = LeastOrigins::new(alloc, program, sig, &tables)?;
     notes_of_each(
         alloc,
@@ -544,8 +538,6 @@ fn notes_of_some(
         &tables,
         &overriders,
         &origins,
-        &places,
-        &sites,
         &owners,
         rows,
     )

@@ -1,6 +1,12 @@
 use Rattle.std.proofs.Common.{◌<◌, length, arith}
-use Rattle.jn_notes.proofs.Noting.{row_more}
+use Rattle.jn_notes.proofs.Noting.{none_rows, row_more}
 use Rattle.jn_notes.proofs.explain.notes_of_each.Goals as goal
+
+pub loop-row-init : goal.loop-row-init
+loop-row-init c = (
+  none_rows c.args.program.now c.args.names.now c.args.sig.now c.args.tables.now c.args.rows.now c.new-list.result.items c.new-list.ensures.items,
+  c.new-chains.ensures c.args.origins.now,
+)
 
 pub loop-row-preserved : goal.loop-row-preserved
 loop-row-preserved c =
