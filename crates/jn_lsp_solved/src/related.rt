@@ -101,17 +101,18 @@ pub fn all_related(
 /// No memory was found.
 pub fn diagnostic_of(
     alloc: Global,
+    encoding: Encoding,
     files: &[SourceFile],
     row: &Row,
     notes: &[Note],
 ) -> Result<Diagnostic, AllocError>
     requires fit { AllFit files.now }
     ensures { IfOk result (λ diagnostic. diagnostic
-        ≡ spec.diagnostic_of files.now row.now notes.now) }
+        ≡ spec.diagnostic_of encoding files.now row.now notes.now) }
 {
     Ok(Diagnostic {
-        range: range_in(files, &row.span),
+        range: range_in(encoding, files, &row.span),
         said: Said::Row(row.code),
-        related: all_related(alloc, files, notes)?,
+        related: all_related(alloc, encoding, files, notes)?,
     })
 }
