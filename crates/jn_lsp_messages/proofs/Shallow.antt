@@ -1,4 +1,4 @@
--- Replies nest at most nine deep, and have no floats.
+-- Replies nest at most ten deep, and have no floats.
 use Rattle.std.proofs.Common.{◌≡◌, ℕ, suc, ◌≤◌, ℤ, pos, negsuc, Bool, false, List, [], ◌∷◌, Option, Some, None, map, codes, refl, sym, ap, ◌∙◌, subst, arith, IsUtf8}
 use Rattle.std.specs.Prelude.{◌||◌, max}
 use Rattle.std.proofs.Math.Nat.{le_trans, max-le}
@@ -28,7 +28,7 @@ use Rattle.jn_lsp_text.specs.declared.reply.Said.TheVariants.{Row, Unchecked}
 use Rattle.jn_lsp_text.specs.declared.reply.Reply.{Reply}
 use Rattle.jn_lsp_text.specs.declared.reply.Reply.TheVariants as reply
 use Rattle.jn_lsp_messages.specs.Incoming.{IsJson}
-use Rattle.jn_lsp_messages.specs.Outgoing.{position_data, range_data, location_data, related_data, told, description_data, described, row_data, unchecked_data, said_data, diagnostic_data, insertion_data, edit_data, action_data, hint_data, kind_name, hover_words, contents_data, hover_data, hover_or_null, watchers_data, registration_data, registrations_data, request_data, sync_data, kinds_data, workspace_data, capabilities_data, server_data, initialize_data, failure_code, failure_words, error_data, id_data, id_or_null, answer_data, refusal_data, notice_data, versioned, published_data, shown_data, list_data, data_of}
+use Rattle.jn_lsp_messages.specs.Outgoing.{position_data, range_data, location_data, related_data, told, description_data, described, row_data, unchecked_data, said_data, diagnostic_data, insertion_data, edit_data, action_data, tooltip_words, tooltip, hint_with, hint_data, kind_name, hover_words, contents_data, hover_data, hover_or_null, watchers_data, registration_data, registrations_data, request_data, sync_data, kinds_data, workspace_data, capabilities_data, server_data, initialize_data, failure_code, failure_words, error_data, id_data, id_or_null, answer_data, refusal_data, notice_data, versioned, published_data, shown_data, list_data, data_of}
 use Rattle.jn_lsp_messages.specs.Uris.{uri_of}
 
 -- a value nests at most so deep, and has no float
@@ -176,18 +176,26 @@ edit_is : (name : List ℕ) (is : List Insertion) → Is 6 (edit_data name is)
 unfolding edit_data
 edit_is name is = holding 5 6 _ refl (last 5 _ _ (holding 4 5 _ refl (last 4 _ _ (listed insertion_data 3 4 refl insertion_is is))))
 
-action_is : (a : Action) → Is 7 (action_data a)
+action_is : (address : Option (List ℕ)) (a : Action) → Is 8 (action_data address a)
 unfolding action_data
-action_is a = holding 6 7 _ refl (next 6 _ _ _ (edit_is a.name a.insertions) (next 6 _ _ _ (text 6 (codes "quickfix")) (last 6 _ _ (text 6 a.title))))
+action_is address a =
+    holding 7 8 _ refl (next 7 _ _ _ (listed (diagnostic_data address) 6 7 refl (diagnostic_is address) a.diagnostics)
+    (next 7 _ _ _ (deeper 6 7 _ (omega arith) (edit_is a.name a.insertions))
+    (next 7 _ _ _ (text 7 (codes "quickfix"))
+    (last 7 _ _ (text 7 a.title)))))
+
+tooltip_are : (places : List Related) → AreMembers 1 (tooltip places)
+tooltip_are [] = record { shallow = least 1; whole = refl }
+tooltip_are (r ∷ more) = last 1 _ _ (text 1 (tooltip_words r more))
 
 hint_is : (h : Hint) → Is 2 (hint_data h)
-unfolding hint_data
+unfolding hint_with
 hint_is h =
     holding 1 2 _ refl (next 1 _ _ _ (natural 1 1)
     (next 1 _ _ _ (text 1 h.label)
     (next 1 _ _ _ (truth 1 h.space_before)
     (next 1 _ _ _ (truth 1 h.space_behind)
-    (last 1 _ _ (position_is h.at))))))
+    (next 1 _ _ _ (position_is h.at) (tooltip_are h.related))))))
 
 contents_is : (markup : Markup) (h : Hover) → Is 1 (contents_data markup h)
 unfolding contents_data
@@ -231,6 +239,11 @@ answer_is : (i : Id) (d : Data) → Is 8 d → Is 9 (answer_data i d)
 unfolding answer_data
 answer_is i d is = holding 8 9 _ refl (next 8 _ _ _ (id_is 8 i) (next 8 _ _ _ (text 8 (codes "2.0")) (last 8 _ _ is)))
 
+-- the same of what holds actions, which hold diagnostics
+offer_is : (i : Id) (d : Data) → Is 9 d → Is 10 (answer_data i d)
+unfolding answer_data
+offer_is i d is = holding 9 10 _ refl (next 9 _ _ _ (id_is 9 i) (next 9 _ _ _ (text 9 (codes "2.0")) (last 9 _ _ is)))
+
 error_is : (f : Failure) → Is 8 (error_data f)
 unfolding error_data
 error_is f = holding 7 8 _ refl (next 7 _ _ _ (integer 7 (failure_code f)) (last 7 _ _ (text 7 (failure_words f))))
@@ -239,23 +252,26 @@ refusal_is : (i : Option Id) (f : Failure) → Is 9 (refusal_data i f)
 unfolding refusal_data
 refusal_is i f = holding 8 9 _ refl (next 8 _ _ _ (error_is f) (next 8 _ _ _ (id_or_null_is 8 i) (last 8 _ _ (text 8 (codes "2.0")))))
 
-reply_is : (address : Option (List ℕ)) (r : Reply) → Is 9 (data_of address r)
-reply_is address (reply.Capabilities i encoding) = answer_is i (initialize_data encoding) (initialize_is encoding)
-reply_is address (reply.Done i) = answer_is i null (nothing 8)
-reply_is address (reply.Refusal i f) = refusal_is i f
-reply_is address (reply.Publish name version ds) = notice_is _ _ (published_is address name version ds)
-reply_is address (reply.Show words) = notice_is _ _ (shown_is words)
-reply_is address reply.Watch = watch_is
-reply_is address (reply.Actions i actions) = answer_is i _ (listed action_data 7 8 refl action_is actions)
-reply_is address (reply.Hints i hints) = answer_is i _ (deeper 3 8 _ (omega arith) (listed hint_data 2 3 refl hint_is hints))
-reply_is address (reply.Hovered i markup hover) = answer_is i _ (hover_or_null_is markup hover)
+at_most_ten : (d : Data) → Is 9 d → Is 10 d
+at_most_ten d is = deeper 9 10 d (omega arith) is
+
+reply_is : (address : Option (List ℕ)) (r : Reply) → Is 10 (data_of address r)
+reply_is address (reply.Capabilities i encoding) = at_most_ten _ (answer_is i (initialize_data encoding) (initialize_is encoding))
+reply_is address (reply.Done i) = at_most_ten _ (answer_is i null (nothing 8))
+reply_is address (reply.Refusal i f) = at_most_ten _ (refusal_is i f)
+reply_is address (reply.Publish name version ds) = at_most_ten _ (notice_is _ _ (published_is address name version ds))
+reply_is address (reply.Show words) = at_most_ten _ (notice_is _ _ (shown_is words))
+reply_is address reply.Watch = at_most_ten _ watch_is
+reply_is address (reply.Actions i actions) = offer_is i _ (listed (action_data address) 8 9 refl (action_is address) actions)
+reply_is address (reply.Hints i hints) = at_most_ten _ (answer_is i _ (deeper 3 8 _ (omega arith) (listed hint_data 2 3 refl hint_is hints)))
+reply_is address (reply.Hovered i markup hover) = at_most_ten _ (answer_is i _ (hover_or_null_is markup hover))
 
 -- what is written of a value that is a reply's reads as it, and is its compact text
 pub reads_as : (address : Option (List ℕ)) (r : Reply) (d : Data) (body : List ℕ) → d ≡ data_of address r → (depth d ≤ max_depth → read body ≡ Some d) → IsUtf8 body → IsJson body (data_of address r)
-reads_as address r d body e reads utf8 = (utf8, reads (subst (λ x. depth x ≤ max_depth) (sym e) (le_trans (reply_is address r).shallow nine)) ∙ ap Some e)
+reads_as address r d body e reads utf8 = (utf8, reads (subst (λ x. depth x ≤ max_depth) (sym e) (le_trans (reply_is address r).shallow ten)) ∙ ap Some e)
   where
-    nine : 9 ≤ max_depth
-    nine = omega arith
+    ten : 10 ≤ max_depth
+    ten = omega arith
 
 pub is_compact : (address : Option (List ℕ)) (r : Reply) (d : Data) (body : List ℕ) → d ≡ data_of address r → (has_float d ≡ false → body ≡ compact_text d) → body ≡ compact_text (data_of address r)
 is_compact address r d body e written = written (ap has_float e ∙ (reply_is address r).whole) ∙ ap compact_text e
