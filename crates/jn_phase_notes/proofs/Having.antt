@@ -30,6 +30,7 @@ found_at (n ∷ ns) span h = by (same_span n.span span) refl (in_cases n.span sp
   where
     never : true ≡ false → ⊥
     never e = cc
+
     by : (b : Bool) → same_span n.span span ≡ b → (n.span ≡ span) ⊎ Contains (map note_span ns) span → (Contains (map note_span ns) span → (note : Note) × (note_at ns span ≡ Some note)) → (note : Note) × (cond b (Some n) (note_at ns span) ≡ Some note)
     by true is k later = (n, refl)
     by false is k later = ⊎_elim (λ e. absurd (never (sym (same_itself n.span span e) ∙ is))) later k
