@@ -165,7 +165,7 @@ module _ (hs : List ClassHead) where
       ∙ ap (λ x. m.is_public && m.is_static && not m.ctor && no_result m.result && eqb m.name.name.0 main_name && is_words x) (params_is m.params)
 
   abbrev made : MethodHead → ℕ → ℕ → ℕ → List BaseType → BaseType → Bool → List (Option SlotNo) → Option SlotNo → Method
-  made m c s b params result main slots at_result = record { name = m.name.name; span = no_span; owner = record { 0 = c }; params = params; result = result; ctor = m.ctor; is_static = m.is_static; is_private = m.is_private; is_abstract = m.is_abstract; is_final = m.is_final; is_main = main; body = body_at m.has_body b; receiver = slot_at (has_receiver m) s; param_slots = slots; result_slot = at_result }
+  made m c s b params result main slots at_result = record { name = m.name.name; span = no_span; owner = record { 0 = c }; params = params; param_spans = []; result = result; ctor = m.ctor; is_static = m.is_static; is_private = m.is_private; is_abstract = m.is_abstract; is_final = m.is_final; is_main = main; body = body_at m.has_body b; receiver = slot_at (has_receiver m) s; param_slots = slots; result_slot = at_result }
 
   method_is : (c s b : ℕ) (m : MethodHead) → bare_method (method_of gs c s b (plain_method m)) ≡ bare_method (method_of hs c s b m)
   method_is c s b m =

@@ -1,5 +1,5 @@
 -- What the example programs are made of.
-use Rattle.std.specs.Prelude.{ℕ, Bool, true, false, List, [], ◌∷◌, Option, Some, None}
+use Rattle.std.specs.Prelude.{ℕ, Bool, true, false, List, [], ◌∷◌, Option, Some, None, map}
 use Rattle.jn_base.specs.declared.number.SlotNo.{SlotNo}
 use Rattle.jn_base.specs.declared.place.Span.{Span}
 use Rattle.jn_points.specs.declared.point.Operand.{Operand}
@@ -41,6 +41,7 @@ ctor_in class params slots body = record {
   span = no_span;
   owner = record { 0 = class };
   params = params;
+  param_spans = map (λ (t : BaseType). no_span) params;
   result = Void;
   ctor = true;
   is_static = false;

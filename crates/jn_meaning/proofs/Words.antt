@@ -29,12 +29,12 @@ stack = record {
       record { name = record { 0 = 29 }; span = at 0 0; owner = record { 0 = 3 }; base = Ref (record { 0 = 1 }); is_static = false; is_final = false; is_private = false; is_monotonic = false; first = pos 0; slot = None } ∷
       record { name = record { 0 = 32 }; span = at 0 0; owner = record { 0 = 3 }; base = Ref (record { 0 = 3 }); is_static = false; is_final = false; is_private = false; is_monotonic = false; first = pos 0; slot = None } ∷ [];
   methods =
-      record { name = record { 0 = 6 }; span = at 0 1; owner = record { 0 = 0 }; params = []; result = Void; ctor = true; is_static = false; is_private = false; is_abstract = false; is_final = false; is_main = false; body = Some (record { 0 = 0 }); receiver = None; param_slots = []; result_slot = None } ∷
-      record { name = record { 0 = 28 }; span = at 301 302; owner = record { 0 = 2 }; params = Ref (record { 0 = 1 }) ∷ []; result = Void; ctor = false; is_static = false; is_private = false; is_abstract = false; is_final = false; is_main = false; body = Some (record { 0 = 1 }); receiver = None; param_slots = None ∷ []; result_slot = None } ∷
-      record { name = record { 0 = 30 }; span = at 302 303; owner = record { 0 = 2 }; params = []; result = Ref (record { 0 = 1 }); ctor = false; is_static = false; is_private = false; is_abstract = false; is_final = false; is_main = false; body = Some (record { 0 = 2 }); receiver = None; param_slots = []; result_slot = None } ∷
-      record { name = record { 0 = 5 }; span = at 303 304; owner = record { 0 = 2 }; params = Array (RefElem (record { 0 = 1 })) false ∷ []; result = Void; ctor = false; is_static = true; is_private = false; is_abstract = false; is_final = false; is_main = false; body = Some (record { 0 = 3 }); receiver = None; param_slots = None ∷ []; result_slot = None } ∷
-      record { name = record { 0 = 25 }; span = at 304 305; owner = record { 0 = 2 }; params = []; result = Void; ctor = true; is_static = false; is_private = false; is_abstract = false; is_final = false; is_main = false; body = Some (record { 0 = 4 }); receiver = None; param_slots = []; result_slot = None } ∷
-      record { name = record { 0 = 37 }; span = at 305 306; owner = record { 0 = 3 }; params = Ref (record { 0 = 1 }) ∷ Ref (record { 0 = 3 }) ∷ []; result = Void; ctor = true; is_static = false; is_private = false; is_abstract = false; is_final = false; is_main = false; body = Some (record { 0 = 5 }); receiver = None; param_slots = None ∷ None ∷ []; result_slot = None } ∷ [];
+      record { name = record { 0 = 6 }; span = at 0 1; owner = record { 0 = 0 }; params = []; param_spans = []; result = Void; ctor = true; is_static = false; is_private = false; is_abstract = false; is_final = false; is_main = false; body = Some (record { 0 = 0 }); receiver = None; param_slots = []; result_slot = None } ∷
+      record { name = record { 0 = 28 }; span = at 301 302; owner = record { 0 = 2 }; params = Ref (record { 0 = 1 }) ∷ []; param_spans = at 38 39 ∷ []; result = Void; ctor = false; is_static = false; is_private = false; is_abstract = false; is_final = false; is_main = false; body = Some (record { 0 = 1 }); receiver = None; param_slots = None ∷ []; result_slot = None } ∷
+      record { name = record { 0 = 30 }; span = at 302 303; owner = record { 0 = 2 }; params = []; param_spans = []; result = Ref (record { 0 = 1 }); ctor = false; is_static = false; is_private = false; is_abstract = false; is_final = false; is_main = false; body = Some (record { 0 = 2 }); receiver = None; param_slots = []; result_slot = None } ∷
+      record { name = record { 0 = 5 }; span = at 303 304; owner = record { 0 = 2 }; params = Array (RefElem (record { 0 = 1 })) false ∷ []; param_spans = at 38 39 ∷ []; result = Void; ctor = false; is_static = true; is_private = false; is_abstract = false; is_final = false; is_main = false; body = Some (record { 0 = 3 }); receiver = None; param_slots = None ∷ []; result_slot = None } ∷
+      record { name = record { 0 = 25 }; span = at 304 305; owner = record { 0 = 2 }; params = []; param_spans = []; result = Void; ctor = true; is_static = false; is_private = false; is_abstract = false; is_final = false; is_main = false; body = Some (record { 0 = 4 }); receiver = None; param_slots = []; result_slot = None } ∷
+      record { name = record { 0 = 37 }; span = at 305 306; owner = record { 0 = 3 }; params = Ref (record { 0 = 1 }) ∷ Ref (record { 0 = 3 }) ∷ []; param_spans = at 38 39 ∷ at 38 39 ∷ []; result = Void; ctor = true; is_static = false; is_private = false; is_abstract = false; is_final = false; is_main = false; body = Some (record { 0 = 5 }); receiver = None; param_slots = None ∷ None ∷ []; result_slot = None } ∷ [];
   bodies = [];
   slots = [];
 }

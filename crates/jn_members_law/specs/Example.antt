@@ -73,6 +73,7 @@ method_in class name slot is_private body = record {
   span = no_span;
   owner = record { 0 = class };
   params = [];
+  param_spans = [];
   result = Void;
   ctor = false;
   is_static = false;

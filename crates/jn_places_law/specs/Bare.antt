@@ -71,7 +71,7 @@ abbrev pub bare_field : Field → Field
 bare_field f = record { name = f.name; span = no_span; owner = f.owner; base = f.base; is_static = f.is_static; is_final = f.is_final; is_private = f.is_private; is_monotonic = f.is_monotonic; first = f.first; slot = f.slot }
 
 abbrev pub bare_method : Method → Method
-bare_method m = record { name = m.name; span = no_span; owner = m.owner; params = m.params; result = m.result; ctor = m.ctor; is_static = m.is_static; is_private = m.is_private; is_abstract = m.is_abstract; is_final = m.is_final; is_main = m.is_main; body = m.body; receiver = m.receiver; param_slots = m.param_slots; result_slot = m.result_slot }
+bare_method m = record { name = m.name; span = no_span; owner = m.owner; params = m.params; param_spans = []; result = m.result; ctor = m.ctor; is_static = m.is_static; is_private = m.is_private; is_abstract = m.is_abstract; is_final = m.is_final; is_main = m.is_main; body = m.body; receiver = m.receiver; param_slots = m.param_slots; result_slot = m.result_slot }
 
 abbrev pub bare_body : Body → Body
 bare_body b = record { method = b.method; regs = b.regs; locals = b.locals; points = bare_points b.points }

@@ -35,6 +35,8 @@ pub struct Method {
     pub span: Span,
     pub owner: ClassNo,
     pub params: Seq<BaseType>,
+    /// Where the name of each parameter stands.
+    pub param_spans: Seq<Span>,
     pub result: BaseType,
     pub ctor: bool,
     pub is_static: bool,

@@ -37,6 +37,7 @@ name_method class body is_abstract receiver result = record {
   span = no_span;
   owner = record { 0 = class };
   params = [];
+  param_spans = [];
   result = ref 1;
   ctor = false;
   is_static = false;

@@ -2,7 +2,7 @@
 --   class A { A peer; A() { this.peer = new A(this); }  A(@UnderInitialization A p) { this.peer = p; } }
 --   class B extends A { String name; B() { super(); this.name = ""; }
 --     public static void main(String[] words) { B b = new B(); String[] a = new String[] {""}; String s = b.name; A p = b.peer.peer; } }
-use Rattle.std.specs.Prelude.{ℕ, Bool, true, false, List, [], ◌∷◌, Option, Some, None, pos}
+use Rattle.std.specs.Prelude.{ℕ, Bool, true, false, List, [], ◌∷◌, Option, Some, None, pos, map}
 use Rattle.jn_base.specs.declared.number.SlotNo.{SlotNo}
 use Rattle.jn_quals.specs.Qualifier.{Qualifier}
 use Rattle.jn_quals.specs.Order.{no_qual, committed_only, free_only}
@@ -31,6 +31,7 @@ ctor_in class params slots body = record {
   span = no_span;
   owner = record { 0 = class };
   params = params;
+  param_spans = map (λ (t : BaseType). no_span) params;
   result = Void;
   ctor = true;
   is_static = false;

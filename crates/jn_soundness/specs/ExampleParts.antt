@@ -38,6 +38,7 @@ main_method class body slot = record {
   span = no_span;
   owner = record { 0 = class };
   params = strings ∷ [];
+  param_spans = no_span ∷ [];
   result = Void;
   ctor = false;
   is_static = true;

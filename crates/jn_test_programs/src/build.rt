@@ -1,7 +1,7 @@
 //! Programs made by hand. Class 0 is Object, with its constructor without parameters, and class 1 is String.
 //! A constructor that Java gives a class without one is left out where nothing calls it.
 use crate::lines::{call, construct, create, end, span};
-use jn_base::{BodyNo, ClassNo, FieldNo, MethodNo, NameNo, RegNo, Seq, SlotNo};
+use jn_base::{BodyNo, ClassNo, FieldNo, MethodNo, NameNo, RegNo, Seq, SlotNo, Span};
 use jn_points::{BaseType, Body, Class, Elem, Field, Method, Operand, Point, Program, SlotInfo};
 use jn_quals::Qual;
 use std::alloc::{AllocError, Global};
@@ -258,6 +258,15 @@ impl Hand {
         Seq::of_vec(bases)
     }
 
+    /// The parameters stand where their method does.
+    fn param_spans(&mut self, params: &[Typed], from: u32) -> Seq<Span> {
+        let mut spans = Vec::new(self.alloc);
+        for _ in params {
+            put(&mut spans, span(from), &mut self.is_short);
+        }
+        Seq::of_vec(spans)
+    }
+
     /// The head of a method; its body is added after.
     pub fn method(
         &mut self,
@@ -269,6 +278,7 @@ impl Hand {
     ) -> MethodNo {
         let method = number(self.methods.len());
         let bases = self.param_bases(params);
+        let param_spans = self.param_spans(params, name.from);
         let param_slots = self.param_slots(params);
         let receiver = self.slot(receiver_of(kind));
         let result_slot = self.slot(gives.slot);
@@ -277,6 +287,7 @@ impl Hand {
             span: span(name.from),
             owner,
             params: bases,
+            param_spans,
             result: gives.base,
             ctor: matches!(kind, Kind::Constructor),
             is_static: matches!(kind, Kind::Static | Kind::PrivateStatic),
