@@ -98,6 +98,11 @@ abbrev pub method_span : Option Method → Span
 method_span None = nowhere
 method_span (Some m) = m.span
 
+-- where the name of a method's parameter of this number stands, or its method where it has no such parameter
+abbrev pub parameter_span : ℕ → Option Method → Span
+parameter_span i None = nowhere
+parameter_span i (Some m) = slice_index_or m.param_spans i m.span
+
 -- where the text stands that a point does
 abbrev pub point_span : Option Point → Span
 point_span None = nowhere
@@ -156,7 +161,7 @@ module _ (P : Program) where
   abbrev pub owner_span : Option Owner → Span
   owner_span None = nowhere
   owner_span (Some (OfField f)) = field_span (field_info P f)
-  owner_span (Some (OfParameter m i)) = method_span (method_at P m)
+  owner_span (Some (OfParameter m i)) = parameter_span i (method_at P m)
   owner_span (Some (OfReceiver m)) = method_span (method_at P m)
   owner_span (Some (OfResult m)) = method_span (method_at P m)
 

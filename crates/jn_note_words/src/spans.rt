@@ -1,5 +1,5 @@
 //! Where steps stand in the text.
-ghost use Rattle.std.specs.Prelude.{◌≡◌, MatchOption, None, Some, slice_get};
+ghost use Rattle.std.specs.Prelude.{◌≡◌, MatchOption, None, Some, slice_get, slice_index_or};
 ghost use Rattle.jn_points.specs.Lookup.{field_info, method_at, method_in, point_at};
 ghost use Rattle.jn_note_words.specs.Owned.{AreOwners};
 ghost use Rattle.jn_note_words.specs.Worded as spec;
@@ -32,6 +32,26 @@ fn method_span(program: &Program, method: u32) -> Span
     match method_at(program, method as usize) {
         None => NOWHERE,
         Some(info) => info.span,
+    }
+}
+
+/// Where a span of this number stands, or else this one.
+fn span_at(spans: &[Span], number: usize, span: Span) -> Span
+    ensures { result ≡ slice_index_or spans.now number span }
+{
+    match spans.get(number) {
+        None => span,
+        Some(found) => *found,
+    }
+}
+
+/// Where the name of a parameter stands, by its number from 0.
+fn parameter_span(program: &Program, method: u32, number: usize) -> Span
+    ensures { result ≡ spec.parameter_span number (method_at program.now method) }
+{
+    match method_at(program, method as usize) {
+        None => NOWHERE,
+        Some(info) => span_at(info.param_spans.as_slice(), number, info.span),
     }
 }
 
@@ -116,7 +136,7 @@ pub fn owner_span(program: &Program, owner: Option<Owner>) -> Span
     match owner {
         None => NOWHERE,
         Some(Owner::OfField(field)) => field_span(program, field),
-        Some(Owner::OfParameter(method, _)) => method_span(program, method),
+        Some(Owner::OfParameter(method, number)) => parameter_span(program, method, number),
         Some(Owner::OfReceiver(method)) => method_span(program, method),
         Some(Owner::OfResult(method)) => method_span(program, method),
     }
