@@ -11,8 +11,7 @@ use Rattle.jn_reasons_law.specs.declared.item.Item.{Item}
 use Rattle.jn_reasons_law.specs.declared.item.Item.TheVariants.{AtSlot, AtRegister}
 use Rattle.jn_reasons_law.specs.Choice.{bit_no}
 use Rattle.jn_reasons_law.specs.Sources.{IsOneOf}
-use Rattle.jn_chain.specs.declared.chains.Rest.{Rest}
-use Rattle.jn_chain.specs.Keys.{Key, key_of, key_eq, AreKept, rest_of, IsPut}
+use Rattle.jn_chain.specs.Keys.{Key, key_of, key_eq, AreKept, kept_of, IsPut, IsEnd}
 use Rattle.jn_chain.proofs.Members.{one_left, pushed, push_cases}
 
 same_bit : (a b : Bit) → bit_no a ≡ bit_no b → a ≡ b
@@ -105,21 +104,26 @@ kept_there {S} list view set z key t is h e c there = subst (IsOneOf z) e (h.non
 pub kept_none : {S : Type 0} (list view : List (Option Item)) (set : HashSet Key S) (z : Option Item) (key : Key) (t : Bool) → key ≡ key_of z → AreKept list set → list ≡ view → t ≡ contains key_eq set key → t ≡ false → IsOneOf z view → ⊥
 kept_none {S} list view set z key t is h e c none m = true≢false (sym (sym (ap (contains key_eq set) (sym is)) ∙ h.all z (subst (IsOneOf z) (sym e) m)) ∙ sym c ∙ none)
 
--- ---- what is known of items
+-- ---- what is kept for items
 
-pub got : {S : Type 0} (entries : List (Key × Rest)) (map : HashMap Key Rest S) (key : Key) (item : Item) (o : Option Rest) → key ≡ key_of (Some item) → map.entries ≡ entries → o ≡ get key_eq map key → o ≡ rest_of entries item
-got {S} entries map key item o is e h = h ∙ ap (λ (k : Key). lookup (key_eq k) map.entries) is ∙ ap (lookup (key_eq (key_of (Some item)))) e
+module _ {A S : Type 0} where
+  pub got : (entries : List (Key × A)) (map : HashMap Key A S) (key : Key) (item : Item) (o : Option A) → key ≡ key_of (Some item) → map.entries ≡ entries → o ≡ get key_eq map key → o ≡ kept_of A entries item
+  got entries map key item o is e h = h ∙ ap (λ (k : Key). lookup (key_eq k) map.entries) is ∙ ap (lookup (key_eq (key_of (Some item)))) e
 
-item_same : (x y : Item) → Some x ≡ Some y → y ≡ x
-item_same x y e = cc
+  pub put_is : (old new : HashMap Key A S) (view : List (Key × A)) (item : Item) (value : A) (key : Key) → key ≡ key_of (Some item) → old.entries ≡ view
+      → ((q : Key) → get key_eq new q ≡ cond (key_eq key q) (Some value) (get key_eq old q)) → IsPut item value (kept_of A view) (kept_of A new.entries)
+  put_is old new view item value key is e updates = record {
+    here = updates (key_of (Some item)) ∙ ap (λ (t : Bool). cond t (Some value) (get key_eq old (key_of (Some item)))) (ap (λ (k : Key). key_eq k (key_of (Some item))) is ∙ itself (key_of (Some item)));
+    others = λ y. by y (key_eq key (key_of (Some y))) refl;
+  }
+    where
+      item_same : (x y : Item) → Some x ≡ Some y → y ≡ x
+      item_same x y e = cc
 
-pub put_is : {S : Type 0} (old new : HashMap Key Rest S) (view : List (Key × Rest)) (item : Item) (rest : Rest) (key : Key) → key ≡ key_of (Some item) → old.entries ≡ view
-    → ((q : Key) → get key_eq new q ≡ cond (key_eq key q) (Some rest) (get key_eq old q)) → IsPut item rest (rest_of view) (rest_of new.entries)
-put_is {S} old new view item rest key is e updates = record {
-  here = updates (key_of (Some item)) ∙ ap (λ (t : Bool). cond t (Some rest) (get key_eq old (key_of (Some item)))) (ap (λ (k : Key). key_eq k (key_of (Some item))) is ∙ itself (key_of (Some item)));
-  others = λ y. by y (key_eq key (key_of (Some y))) refl;
-}
-  where
-    by : (y : Item) (t : Bool) → key_eq key (key_of (Some y)) ≡ t → (y ≡ item) ⊎ (rest_of new.entries y ≡ rest_of view y)
-    by y true h = inl (item_same item y (one_source (Some item) (Some y) (alike (key_of (Some item)) (key_of (Some y)) (ap (λ (k : Key). key_eq k (key_of (Some y))) (sym is) ∙ h))))
-    by y false h = inr (updates (key_of (Some y)) ∙ ap (λ (t : Bool). cond t (Some rest) (get key_eq old (key_of (Some y)))) h ∙ ap (lookup (key_eq (key_of (Some y)))) e)
+      by : (y : Item) (t : Bool) → key_eq key (key_of (Some y)) ≡ t → (y ≡ item) ⊎ (kept_of A new.entries y ≡ kept_of A view y)
+      by y true h = inl (item_same item y (one_source (Some item) (Some y) (alike (key_of (Some item)) (key_of (Some y)) (ap (λ (k : Key). key_eq k (key_of (Some y))) (sym is) ∙ h))))
+      by y false h = inr (updates (key_of (Some y)) ∙ ap (λ (t : Bool). cond t (Some value) (get key_eq old (key_of (Some y)))) h ∙ ap (lookup (key_eq (key_of (Some y)))) e)
+
+  -- the same, seen from an item that ends a walk
+  pub end_some : (entries : List (Key × A)) (x : Item) (value : A) → kept_of A entries x ≡ Some value → IsEnd A (kept_of A entries) (Some x)
+  end_some entries x value e = (value, e)

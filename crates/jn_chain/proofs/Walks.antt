@@ -1,8 +1,8 @@
 -- Walks by the least steps that are known, and what they are.
-use Rattle.std.proofs.Common.{◌≡◌, ℕ, suc, ◌+◌, ◌-◌, ◌<◌, ◌≤◌, ⊎_elim, true, false, ◌&&◌, List, [], ◌∷◌, ◌++◌, length, Option, Some, None, refl, sym, ap, ◌∙◌, subst, arith, append_assoc, append-nil}
-use Rattle.std.specs.Prelude.{eqb, ltb}
+use Rattle.std.proofs.Common.{◌≡◌, ℕ, zero, suc, ◌+◌, ◌-◌, ◌<◌, ◌≤◌, ⊎_elim, true, false, ◌&&◌, List, [], ◌∷◌, ◌++◌, length, take, Option, Some, None, refl, sym, ap, ◌∙◌, subst, arith, append_assoc, append-nil}
+use Rattle.std.specs.Prelude.{eqb, ltb, slice_index_or}
 use Rattle.std.proofs.lemmas.Bool.{and_from, and_parts, or_cases, or_left, or_right}
-use Rattle.std.proofs.lemmas.List.{length_push}
+use Rattle.std.proofs.lemmas.List.{length_push, take_more}
 use Rattle.jn_quals.specs.Qualifier.{Qualifier}
 use Rattle.jn_points.specs.declared.program.Program.{Program}
 use Rattle.jn_env.specs.Order.{Table}
@@ -13,9 +13,10 @@ use Rattle.jn_reasons_law.specs.Chains.{HasChain, IsCause, IsChain}
 use Rattle.jn_reasons_law.specs.Choice.{BeginsAt, IsFirstChain, is_before, place_list}
 use Rattle.jn_reasons_law.specs.Walk.{IsWalk}
 use Rattle.jn_chain.specs.declared.chains.Rest.{Rest}
-use Rattle.jn_chain.specs.Search.{Ground, source_list, way_list, IsThere, IsNext, Reaches, IsStep, IsWay, IsLeastStep, left_of, AreRests, IsFound}
+use Rattle.jn_chain.specs.Search.{Ground, source_list, way_list, IsThere, IsNext, Reaches, IsStep, IsWay, IsLeastStep, left_of, AreRests, IsFound, IsKnownStep, IsPath, IsShortestWay}
 use Rattle.jn_chain.proofs.Ordering.{never, as_false}
-use Rattle.jn_chain.proofs.Resting.{left_least, some_rest}
+use Rattle.jn_chain.specs.Keys.{IsEnd}
+use Rattle.jn_chain.proofs.Resting.{left_least, left_reaches, some_rest}
 
 abbrev Source : Type 0
 Source = Option Item
@@ -99,6 +100,59 @@ module _ (G : Ground) (K : Item → Option Rest) (R : AreRests G K) where
     pub walk_long : (left : ℕ) (source : Source) (steps : List Step) → left ≤ 0 → IsWalked G K x count left source steps → length steps ≡ count
     walk_long left source steps le W = let h = W.long in omega (arith, le, h)
 
+-- ---- paths
+
+module _ (G : Ground) (K : Item → Option Rest) where
+  pub path_start : (z : Source) (steps : List Step) → steps ≡ [] → IsPath G K z steps z
+  path_start z steps e = subst (λ (l : List Step). IsPath G K z l z) (sym e) refl
+
+  one_more : (z y w : Source) (left : ℕ) (steps : List Step) (x : Step) → IsPath G K z steps y → left_of K y ≡ Some (left + 1) → IsLeastStep G K left y x w → IsPath G K z (steps ++ x ∷ []) w
+  one_more z y w left [] x p k l = (p ∙ l.is, (w, record { left = left; known = subst (λ (v : Source). left_of K v ≡ Some (left + 1)) l.is k; way = l.way; behind = l.known }, refl))
+  one_more z y w left (v ∷ more) x p k l = (p.0, (p.1.0, p.1.1, one_more p.1.0 y w left more x p.1.2 k l))
+
+  pub path_more : (z y w : Source) (left : ℕ) (steps new : List Step) (x : Step) → IsPath G K z steps y → left_of K y ≡ Some (left + 1) → IsLeastStep G K left y x w → new ≡ steps ++ x ∷ [] → IsPath G K z new w
+  path_more z y w left steps new x p k l e = subst (λ (l : List Step). IsPath G K z l w) (sym e) (one_more z y w left steps x p k l)
+
+  split : (z stop : Source) (steps : List Step) (x : Step) → IsPath G K z (steps ++ x ∷ []) stop → IsPath G K z steps (Some x.item) × IsKnownStep G K x stop
+  split z stop [] x p = (p.0, subst (IsKnownStep G K x) p.1.2 p.1.1)
+  split z stop (v ∷ more) x p = let r = split p.1.0 stop more x p.1.2 in ((p.0, (p.1.0, p.1.1, r.0)), r.1)
+
+  -- without its last step
+  pub path_less : (z stop : Source) (steps : List Step) (i : ℕ) (d : Step) → i < length steps → IsPath G K z (take (i + 1) steps) stop
+      → IsPath G K z (take i steps) (Some (slice_index_or steps i d).item) × IsKnownStep G K (slice_index_or steps i d) stop
+  path_less z stop steps i d lt p = split z stop (take i steps) (slice_index_or steps i d) (subst (λ (l : List Step). IsPath G K z l stop) (take_more steps i d lt) p)
+
+  module _ (R : AreRests G K) where
+    -- where no step is left, there is the text, which is an end
+    pub path_ends : {A : Type 0} (kept : Item → Option A) (left : ℕ) (y : Source) → left ≤ 0 → left_of K y ≡ Some left → IsEnd A kept y
+    path_ends kept left None le k = tt
+    path_ends kept left (Some y) le k =
+        let r = some_rest K y left k in
+        let some = (R y r.0 r.1).some in
+        let is = r.2 in
+        absurd (omega (arith, le, some, is))
+
+    pub way_reaches : (z : Source) (steps : List Step) → IsWay G z steps → Reaches G (length steps) z
+    way_reaches z [] w = w
+    way_reaches z (x ∷ more) w =
+        let y = w.1.0 in
+        let step : IsStep G (length more) x y = w.1.1 in
+        subst (λ (u : Source). Reaches G (suc (length more)) u) (sym w.0) (x.place, y, step.next, way_reaches y more w.1.2)
+
+    pub no_way : IsShortestWay G None []
+    no_way = record { way = refl; shortest = λ m v. omega arith }
+
+    -- a shortest way with a step before it
+    pub way_more : (x : Step) (y : Source) (steps : List Step) → IsKnownStep G K x y → IsShortestWay G y steps → IsShortestWay G (Some x.item) (x ∷ steps)
+    way_more x y steps k h =
+        let low : length steps ≤ k.left = h.shortest k.left (left_reaches G K R y k.left k.behind) in
+        let high : k.left ≤ length steps = left_least G K R y k.left (length steps) k.behind (way_reaches y steps h.way) in
+        let same : k.left ≡ length steps = omega (arith, low, high) in
+        record {
+          way = (refl, (y, subst (λ (n : ℕ). IsStep G n x y) same k.way, h.way));
+          shortest = λ m v. let l = left_least G K R (Some x.item) (k.left + 1) m k.known v in omega (arith, l, same);
+        }
+
 -- of lists of numbers whose fronts decide
 longer : (a c xs ys : List ℕ) → is_before a c ≡ true → is_before (a ++ xs) (c ++ ys) ≡ true
 longer [] c xs ys h = absurd (never h)
@@ -168,8 +222,11 @@ module _ (G : Ground) where
   pub chain_stands : (x : Item) → HasChain P s T x → Stands s T x
   chain_stands x h = first_stands (record { item = x; place = h.place }) h.more h.chain
 
+  -- a shortest way is the first chain
+  pub shortest_first : (law : FirstLaw) (x : Item) (steps : List Step) → Stands s T x → IsShortestWay G (Some x) steps → IsFirstChain P s T x steps
+  shortest_first law x [] st h = absurd (none_some x h.way)
+  shortest_first law x (y ∷ ys) st h = law x (y ∷ ys) (some_same x y.item h.way.0) (way_walk (Some x) y ys st h.way) (λ others b c. h.shortest (length others) (from_item x others b c).1)
+
   -- the walk is the first chain
   pub walk_first : (law : FirstLaw) (K : Item → Option Rest) (x : Item) (left : ℕ) → IsFound G K x left → Stands s T x → (steps : List Step) → IsWay G (Some x) steps → length steps ≡ left → IsFirstChain P s T x steps
-  walk_first law K x left F st [] w l = absurd (none_some x w)
-  walk_first law K x left F st (y ∷ ys) w l = law x (y ∷ ys) (some_same x y.item w.0) (way_walk (Some x) y ys st w)
-      (λ others b c. let h = left_least G K F.rests_are (Some x) left (length others) F.known (from_item x others b c).1 in omega (arith, h, l))
+  walk_first law K x left F st steps w l = shortest_first law x steps st (record { way = w; shortest = λ m v. subst (λ (n : ℕ). n ≤ m) (sym l) (left_least G K F.rests_are (Some x) left m F.known v) })

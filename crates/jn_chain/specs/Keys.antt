@@ -27,11 +27,20 @@ pub record AreKept {S : Type 0} (list : List (Option Item)) (set : HashSet Key S
   pub all : (z : Option Item) → IsOneOf z list → contains key_eq set (key_of z) ≡ true
   pub none_else : (z : Option Item) → contains key_eq set (key_of z) ≡ true → IsOneOf z list
 
+-- what is kept for the item
+abbrev pub kept_of : (A : Type 0) → List (Key × A) → Item → Option A
+kept_of A entries x = lookup (key_eq (key_of (Some x))) entries
+
 -- what is known of the item
 abbrev pub rest_of : List (Key × Rest) → Item → Option Rest
-rest_of entries x = lookup (key_eq (key_of (Some x))) entries
+rest_of entries x = kept_of Rest entries x
 
--- it is known of the item, and what is known of others stays
-pub record IsPut (x : Item) (rest : Rest) (old new : Item → Option Rest) : Type 0 where
-  pub here : new x ≡ Some rest
+-- it is kept for the item, and what is kept for others stays
+pub record IsPut {A : Type 0} (x : Item) (value : A) (old new : Item → Option A) : Type 0 where
+  pub here : new x ≡ Some value
   pub others : (y : Item) → (y ≡ x) ⊎ (new y ≡ old y)
+
+-- an item for which something is kept, or the text
+abbrev pub IsEnd : (A : Type 0) → (Item → Option A) → Option Item → Type 0
+IsEnd A kept None = Unit {0}
+IsEnd A kept (Some x) = (value : A) × (kept x ≡ Some value)

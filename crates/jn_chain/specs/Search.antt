@@ -217,3 +217,20 @@ module _ (G : Ground) where
     pub is : x ≡ Some step.item
     pub way : IsStep left step y
     pub known : left_of rests y ≡ Some left
+
+  -- a step from an item to what it comes from, the least that is known
+  pub record IsKnownStep (rests : Item → Option Rest) (x : Step) (y : Option Item) : Type 0 where
+    pub left : ℕ
+    pub known : left_of rests (Some x.item) ≡ Some (left + 1)
+    pub way : IsStep left x y
+    pub behind : left_of rests y ≡ Some left
+
+  -- such steps from a source to another
+  abbrev pub IsPath : (Item → Option Rest) → Option Item → List Step → Option Item → Type 0
+  IsPath rests z [] stop = z ≡ stop
+  IsPath rests z (x ∷ more) stop = (z ≡ Some x.item) × ((y : Option Item) × IsKnownStep rests x y × IsPath rests y more stop)
+
+  -- a way from a source to the text, and none is shorter
+  pub record IsShortestWay (z : Option Item) (steps : List Step) : Type 0 where
+    pub way : IsWay z steps
+    pub shortest : (m : ℕ) → Reaches m z → length steps ≤ m

@@ -1,9 +1,12 @@
 //! The first of the shortest chains.
-ghost use Rattle.std.specs.Prelude.{IfOk, OnOk};
+ghost use Rattle.std.specs.Prelude.{IfOk, List, Some};
+ghost use Rattle.jn_reasons_law.specs.declared.item.Item.{Item};
+ghost use Rattle.jn_reasons_law.specs.declared.item.Step.{Step};
+ghost use Rattle.jn_reasons_law.specs.Items.{Stands};
 ghost use Rattle.jn_reasons_law.specs.Chains.{HasChain};
 ghost use Rattle.jn_reasons_law.specs.Choice.{IsFirstChain};
 ghost use Rattle.jn_chain.specs.Keys.{rest_of};
-ghost use Rattle.jn_chain.specs.Search.{AreRests, IsFound};
+ghost use Rattle.jn_chain.specs.Search.{AreRests, Ground, IsFound, IsShortestWay};
 
 use crate::chains::Chains;
 use crate::levels::find_levels;
@@ -32,8 +35,11 @@ fn search<O: Origins>(
     Ok(best)
 }
 
-/// How many steps are left from an item, searched for where it isn't known.
-fn find_left<O: Origins>(
+/// How many steps are left from an item that has a chain, searched for where it isn't known.
+///
+/// # Errors
+/// No memory was found.
+pub fn find_left<O: Origins>(
     alloc: Global,
     origins: &O,
     chains: &mut Chains,
@@ -48,6 +54,14 @@ fn find_left<O: Origins>(
         None => search(alloc, origins, chains, item),
         Some(left) => Ok(left),
     }
+}
+
+/// A way by least steps of which none is shorter is the first of the shortest chains.
+pub fn shortest_ways_are_first_chains()
+    ensures { (G : Ground) (x : Item) (steps : List Step) → Stands G.sig G.tables x
+        → IsShortestWay G (Some x) steps → IsFirstChain G.program G.sig G.tables x steps }
+{
+    least_ways_make_the_first_chain();
 }
 
 /// The first of the shortest chains from an item that has one, with what is known of others. There is no other, so it doesn't depend on the search; and

@@ -3,16 +3,19 @@
 
 pub mod chains;
 pub mod first;
+pub mod kept;
 mod levels;
 mod lists;
 mod order;
 pub mod origins;
 mod settled;
 pub mod shown;
-mod sources;
-mod walk;
+pub mod sources;
+pub mod walk;
 
 pub use chains::Chains;
-pub use first::{first_chain, next_first_chain};
+pub use first::{find_left, first_chain, next_first_chain};
+pub use kept::Kept;
 pub use origins::Origins;
-pub use shown::told;
+pub use shown::{Told, nothing_told, told_with};
+pub use walk::walk_to;

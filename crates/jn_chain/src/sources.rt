@@ -12,10 +12,10 @@ use std::collections::HashSet;
 use std::marker::Model;
 
 /// A source as numbers: what it is, its body or slot, its point, its register and its bit.
-pub(crate) type Key = ((u32, u32), ((u32, u32), u32));
+pub type Key = ((u32, u32), ((u32, u32), u32));
 
 /// The numbers of a source.
-pub(crate) fn key_of(source: Source) -> Key
+pub fn key_of(source: Source) -> Key
     ensures { result ≡ key_of source }
 {
     match source {

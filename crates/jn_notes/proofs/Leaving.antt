@@ -1,7 +1,6 @@
 -- The read of a field by which a chain leaves its first registers.
-use Rattle.std.proofs.Common.{◌≡◌, ◌⊎◌, inl, inr, ⊎_elim, ℕ, ◌+◌, ◌<◌, Bool, true, false, cond, eqb, List, [], ◌∷◌, length, drop, Option, Some, None, refl, sym, ap, ◌∙◌, subst}
-use Rattle.std.specs.Prelude.{is_some, slice_get, slice_index_or}
-use Rattle.std.proofs.lemmas.List.{drop_more}
+use Rattle.std.proofs.Common.{◌≡◌, ◌⊎◌, inl, inr, ⊎_elim, ℕ, ◌<◌, Bool, true, false, cond, eqb, List, [], ◌∷◌, length, Option, Some, None, refl, sym, ap, subst}
+use Rattle.std.specs.Prelude.{slice_get}
 use Rattle.std.proofs.lemmas.Option.{slice_get_within}
 use Rattle.jn_points.specs.declared.point.Point.{Point}
 use Rattle.jn_points.specs.declared.point.PointKind.{PointKind}
@@ -70,41 +69,3 @@ module _ (P : Program) where
   read_inside (step ∷ steps) x e =
       ⊎_elim (λ h. from_inside step.item step.place x h) (λ h. read_inside steps x (cond_there (goes_on step) (read_in P steps) x h))
       (or_cases (read_from P step.item step.place) (cond (goes_on step) (read_in P steps) None) x e)
-
-  -- ---- step after step
-
-  over_step : (steps : List Step) (i : ℕ) (x : Step) → i < length steps → x ≡ slice_index_or steps i x
-      → read_in P (drop i steps) ≡ or_read (read_from P x.item x.place) (cond (goes_on x) (read_in P (drop (i + 1) steps)) None)
-  over_step steps i x lt is = ap (read_in P) (drop_more steps i x lt) ∙ ap (λ (y : Step). or_read (read_from P y.item y.place) (cond (goes_on y) (read_in P (drop (i + 1) steps)) None)) (sym is)
-
-  if_found : (found : Option ReadAt) (rest : Option ReadAt) → is_some found ≡ true → found ≡ or_read found rest
-  if_found None rest e = absurd cc
-  if_found (Some x) rest e = refl
-
-  if_none : (found : Option ReadAt) (rest : Option ReadAt) → is_some found ≡ false → or_read found rest ≡ rest
-  if_none None rest e = refl
-  if_none (Some x) rest e = absurd cc
-
-  pub read_found : (steps : List Step) (i : ℕ) (x : Step) (found : Option ReadAt) → i < length steps → x ≡ slice_index_or steps i x → found ≡ read_from P x.item x.place → is_some found ≡ true
-      → read_in P (drop i steps) ≡ read_in P steps → found ≡ read_in P steps
-  read_found steps i x found lt is f e h =
-      if_found found (cond (goes_on x) (read_in P (drop (i + 1) steps)) None) e
-      ∙ ap (λ (o : Option ReadAt). or_read o (cond (goes_on x) (read_in P (drop (i + 1) steps)) None)) f
-      ∙ sym (over_step steps i x lt is) ∙ h
-
-  not_found : (steps : List Step) (i : ℕ) (x : Step) (found : Option ReadAt) → i < length steps → x ≡ slice_index_or steps i x → found ≡ read_from P x.item x.place → is_some found ≡ false
-      → read_in P (drop i steps) ≡ cond (goes_on x) (read_in P (drop (i + 1) steps)) None
-  not_found steps i x found lt is f e =
-      over_step steps i x lt is
-      ∙ ap (λ (o : Option ReadAt). or_read o (cond (goes_on x) (read_in P (drop (i + 1) steps)) None)) (sym f)
-      ∙ if_none found (cond (goes_on x) (read_in P (drop (i + 1) steps)) None) e
-
-  pub read_over : (steps : List Step) (i : ℕ) (x : Step) (found : Option ReadAt) (on : Bool) → i < length steps → x ≡ slice_index_or steps i x → found ≡ read_from P x.item x.place → is_some found ≡ false
-      → on ≡ goes_on x → on ≡ true → read_in P (drop i steps) ≡ read_in P steps → read_in P (drop (i + 1) steps) ≡ read_in P steps
-  read_over steps i x found on lt is f e g t h =
-      sym (not_found steps i x found lt is f e ∙ ap (λ (c : Bool). cond c (read_in P (drop (i + 1) steps)) None) (sym g ∙ t)) ∙ h
-
-  pub read_ends : (steps : List Step) (i : ℕ) (x : Step) (found : Option ReadAt) (on : Bool) → i < length steps → x ≡ slice_index_or steps i x → found ≡ read_from P x.item x.place → is_some found ≡ false
-      → on ≡ goes_on x → on ≡ false → read_in P (drop i steps) ≡ read_in P steps → None ≡ read_in P steps
-  read_ends steps i x found on lt is f e g t h =
-      sym (not_found steps i x found lt is f e ∙ ap (λ (c : Bool). cond c (read_in P (drop (i + 1) steps)) None) (sym g ∙ t)) ∙ h

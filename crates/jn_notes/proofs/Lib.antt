@@ -6,6 +6,7 @@ mod Lacking
 mod Leaving
 mod Nearby
 mod Noting
+mod Saying
 mod Solving
 mod Speaking
 pub mod Standing

@@ -1,5 +1,5 @@
 -- Notes, step after step and row after row.
-use Rattle.std.proofs.Common.{◌≡◌, Bool, ℕ, ◌+◌, ◌<◌, ◌≤◌, List, [], ◌∷◌, ◌++◌, length, map, take, Option, Some, None, sym, ap, ◌∙◌, subst, arith}
+use Rattle.std.proofs.Common.{◌≡◌, Bool, true, false, ℕ, ◌+◌, ◌-◌, ◌<◌, ◌≤◌, List, [], ◌∷◌, ◌++◌, length, map, take, Option, Some, None, sym, ap, ◌∙◌, subst, arith}
 use Rattle.std.specs.Prelude.{slice_index_or}
 use Rattle.std.specs.List.{range_with_len}
 use Rattle.std.proofs.lemmas.List.FromFn.{get_or-map-range_with_len, length-map-range_with_len}
@@ -14,11 +14,18 @@ use Rattle.jn_tables_law.specs.Inferable.{IsInferable, least_table}
 use Rattle.jn_reasons_law.specs.declared.item.Item.{Item}
 use Rattle.jn_reasons_law.specs.declared.item.Step.{Step}
 use Rattle.jn_reasons_law.specs.Choice.{IsFirstChain, told}
+use Rattle.jn_chain.specs.declared.shown.Told.{Told}
+use Rattle.jn_chain.specs.Search.{Ground, IsShortestWay}
+use Rattle.jn_chain.specs.Told.{shown, told_of}
+use Rattle.jn_chain.proofs.Telling.{front_same, last_same}
 use Rattle.jn_note_words.specs.declared.note.Note.{Note}
 use Rattle.jn_note_words.specs.declared.note.Notes.{Notes}
 use Rattle.jn_notes.specs.Asked.{item_of}
-use Rattle.jn_notes.specs.Noted.{note_of, noted, no_notes, AreBy, AreFrom, AreNotes, AreEach, AreNotesOf}
-use Rattle.jn_notes.specs.Voids.{AreVoids, read_in}
+use Rattle.jn_notes.specs.declared.said.Said.{Said}
+use Rattle.jn_notes.specs.declared.voids.ReadAt.{ReadAt}
+use Rattle.jn_notes.specs.Said.{IsSaid, said_of}
+use Rattle.jn_notes.specs.Noted.{before_last, last_of, most_shown, step_notes, note_of, noted, no_notes, AreBy, AreFrom, AreNotes, AreEach, AreNotesOf}
+use Rattle.jn_notes.specs.Voids.{AreVoids}
 
 module _ (P : Program) (names : List (List ℕ)) (ends : Bool) where
   one_more : (steps : List Step) (i : ℕ) (x : Step) (n : Note) → i < length steps → x ≡ slice_index_or steps i x → n ≡ note_of P names ends x
@@ -60,15 +67,39 @@ module _ (P : Program) (names : List (List ℕ)) where
     none_rows [] list e = subst (AreEach P names s tables []) (sym e) tt
     none_rows (row ∷ rows) list e = subst (AreEach P names s tables []) (sym e) tt
 
-  -- of a chain
-  pub by_told : (s : List Qualifier) (tables : List Table) (steps list : List Step) (voids : List Note) (notes : Notes)
-      → AreVoids P names s tables (read_in P steps) voids → list ≡ told steps → notes ≡ noted P names voids list → AreBy P names s tables steps notes
-  by_told s tables steps list voids notes h e f = (voids, h, f ∙ ap (noted P names voids) e)
+  -- of what is told of a chain
+  pub noted_told : (voids first whole : List Note) (told' : Told) (count : ℕ) → first ≡ voids ++ map (note_of P names false) (before_last told'.shown) → whole ≡ first ++ map (note_of P names true) (last_of told'.shown) → count ≡ told'.count - most_shown
+      → (steps : List Step) → told' ≡ told_of most_shown steps → record { shown = whole; more = count } ≡ noted P names voids (told steps)
+  noted_told voids first whole told' count e f n steps is = λ i. record { shown = shown_is i; more = (n ∙ ap (λ (t : Told). t.count - most_shown) is) i }
+    where
+      before : List Step → List Note
+      before xs = map (note_of P names false) (before_last xs)
 
-  -- of a chain's first item
-  pub from_chain : (s t : List Qualifier) (tables ts : List Table) (x : Item) (steps : List Step) (notes : Notes)
-      → t ≡ s → ts ≡ tables → IsFirstChain P t ts x steps → AreBy P names s tables steps notes → AreFrom P names s tables (Some x) notes
-  from_chain s t tables ts x steps notes es et h a = (steps, subst (λ (us : List Table). IsFirstChain P s us x steps) et (subst (λ (q : List Qualifier). IsFirstChain P q ts x steps) es h), a)
+      last : List Step → List Note
+      last xs = map (note_of P names true) (last_of xs)
+
+      shown_is : whole ≡ voids ++ step_notes P names (told steps)
+      shown_is =
+          f ∙ ap (λ (l : List Note). l ++ last told'.shown) e ∙ append_assoc voids (before told'.shown) (last told'.shown)
+          ∙ ap (λ (t : Told). voids ++ (before t.shown ++ last t.shown)) is
+          ∙ ap (λ (l : List Step). voids ++ (map (note_of P names false) l ++ last (shown most_shown (told steps)))) (front_same most_shown (told steps))
+          ∙ ap (λ (l : List Step). voids ++ (before (told steps) ++ map (note_of P names true) l)) (last_same most_shown (told steps))
+
+  -- of what is said of a chain
+  pub by_said : (s : List Qualifier) (tables : List Table) (said : Said) (voids : List Note) (notes : Notes) → AreVoids P names s tables said.read voids
+      → ((steps : List Step) → said.told ≡ told_of most_shown steps → notes ≡ noted P names voids (told steps))
+      → (steps : List Step) → said ≡ said_of P steps → AreBy P names s tables steps notes
+  by_said s tables said voids notes h n steps e = (voids, subst (λ (r : Option ReadAt). AreVoids P names s tables r voids) (ap (λ (x : Said). x.read) e) h, n steps (ap (λ (x : Said). x.told) e))
+
+  -- of what is said of an item
+  pub from_said : (s : List Qualifier) (tables : List Table) (G : Ground) (x : Item) (said : Said) (notes : Notes) → G.program ≡ P → G.sig ≡ s → G.tables ≡ tables → IsSaid G x said
+      → ((steps : List Step) → IsShortestWay G (Some x) steps → IsFirstChain G.program G.sig G.tables x steps)
+      → ((steps : List Step) → said ≡ said_of P steps → AreBy P names s tables steps notes) → AreFrom P names s tables (Some x) notes
+  from_said s tables G x said notes p q t h law n = (
+    h.steps,
+    subst (λ (us : List Table). IsFirstChain P s us x h.steps) t (subst (λ (r : List Qualifier). IsFirstChain P r G.tables x h.steps) q (subst (λ (Q : Program). IsFirstChain Q G.sig G.tables x h.steps) p (law h.steps h.way))),
+    n h.steps (h.is ∙ ap (λ (Q : Program). said_of Q h.steps) p),
+  )
 
   -- of a row's item
   pub of_item : (s : List Qualifier) (tables : List Table) (row : Row) (o : Option Item) (x : Item) (notes : Notes) → o ≡ item_of P s row tables → o ≡ Some x

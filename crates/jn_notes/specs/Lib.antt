@@ -5,3 +5,4 @@ pub mod Voids
 pub mod Spoken
 pub mod Noted
 pub mod Found
+pub mod Said

@@ -1,28 +1,35 @@
 //! The notes of rows.
-ghost use Rattle.std.specs.Prelude.{◌≡◌, ◌-◌, ◌++◌, [], IfOk, OnOk, map, take, true, Some};
+ghost use Rattle.std.specs.Prelude.{◌≡◌, ◌<◌, ◌-◌, ◌++◌, [], IfOk, List, OnOk, length, map, take, true, Some};
 ghost use Rattle.jn_contrib.specs.Entries.{AreOverriders};
 ghost use Rattle.jn_tables_law.specs.Inferable.{IsInferable};
 ghost use Rattle.jn_inference_law.specs.Solution.{IsLeastSignature};
 ghost use Rattle.jn_reasons_law.specs.Chains.{HasChain};
-ghost use Rattle.jn_chain.specs.Keys.{rest_of};
+ghost use Rattle.jn_reasons_law.specs.declared.item.Step.{Step};
+ghost use Rattle.jn_chain.specs.Keys.{IsEnd, kept_of, rest_of};
 ghost use Rattle.jn_chain.specs.Search.{AreRests};
+ghost use Rattle.jn_chain.specs.Told.{told_of};
 ghost use Rattle.jn_sites.specs.Marks.{AreSites};
 ghost use Rattle.jn_sites.specs.Near.{AreNear};
 ghost use Rattle.jn_notes.specs.Asked.{item_of};
 ghost use Rattle.jn_notes.specs.Noted.{AreBy, AreEach, AreFrom, AreLeastTables, AreNotes, AreNotesOf, before_last, headed, last_of, left_out, most_shown, no_notes, note_of, noted};
 ghost use Rattle.jn_note_words.specs.Owned.{AreOwners};
-ghost use Rattle.jn_reasons_law.specs.Choice.{IsFirstChain};
+ghost use Rattle.jn_notes.specs.declared.said.Said.{Said};
+ghost use Rattle.jn_notes.specs.declared.voids.ReadAt.{ReadAt};
+ghost use Rattle.jn_notes.specs.Said.{AreSaid, said_of};
+ghost use Rattle.jn_reasons_law.specs.Choice as choice;
 ghost use Rattle.jn_origins.specs.Standing.{AreSized};
 
 use crate::found::register_item_at;
 use crate::pairs::{part_of, slot_item};
 use crate::reads::{register_item, sought_of};
+use crate::said::{Said, say};
 use crate::tables::least_tables;
 use crate::topics::{Topic, topic_notes, topics_of};
 use crate::voids::find_voids;
 use jn_base::lists::put;
 use jn_base::{OutOfMemory, Row, Seq};
-use jn_chain::{Chains, next_first_chain, told};
+use jn_chain::first::shortest_ways_are_first_chains;
+use jn_chain::{Chains, Kept, Told};
 use jn_contrib::{Overrider, overriders};
 use jn_env::FlowTable;
 use jn_index::indexed::IndexedProgram;
@@ -43,7 +50,7 @@ use jn_trees::Names;
 use std::alloc::{AllocError, Global};
 
 /// The greatest number of steps that are shown of a row, and of declarations.
-const MOST_SHOWN: usize = 8;
+pub(crate) const MOST_SHOWN: usize = 8;
 
 /// A step in words, and where it stands, and whether the chain ends there.
 fn note_of(
@@ -137,13 +144,14 @@ fn noted(
     names: &Names,
     owners: &[Option<Owner>],
     voids: Vec<Note>,
-    steps: &[Step],
+    told: &Told,
 ) -> Result<Notes, AllocError>
     requires owners { AreOwners program.now owners.now }
-    ensures { IfOk result
-        (λ notes. notes ≡ noted program.now names.now voids.items steps.now) }
+    ensures { IfOk result (λ notes. (steps : List Step) → told.now ≡ told_of most_shown steps
+        → notes ≡ noted program.now names.now voids.items (choice.told steps)) }
 {
     let mut notes = voids;
+    let steps = told.shown.as_slice();
     put_steps(
         &mut notes,
         alloc,
@@ -164,7 +172,7 @@ fn noted(
     )?;
     Ok(Notes {
         shown: Seq::of_vec(notes),
-        more: more(steps.len()),
+        more: more(told.count),
     })
 }
 
@@ -216,26 +224,7 @@ pub fn item_at(
     }
 }
 
-/// The first chain from an item, with what is known of chains.
-fn chain_from(
-    alloc: Global,
-    program: &Program,
-    origins: &LeastOrigins,
-    chains: &mut Chains,
-    item: Item,
-) -> Result<Vec<Step>, OutOfMemory>
-    requires program { origins.now.program ≡ program.now }
-    requires rests { AreRests origins.now (rest_of chains.old) }
-    requires chain { HasChain program.now origins.now.sig origins.now.tables item }
-    ensures rests { IfOk result (λ steps. AreRests origins.now (rest_of chains.new)) }
-    ensures first { IfOk result (λ steps.
-        IsFirstChain program.now origins.now.sig origins.now.tables item steps.items) }
-{
-    let _program = program;
-    next_first_chain(alloc, origins, chains, item)
-}
-
-/// The notes of a chain.
+/// The notes of what is said of a chain.
 fn notes_by(
     alloc: Global,
     program: &Program,
@@ -243,21 +232,57 @@ fn notes_by(
     sig: &Sig,
     tables: &[FlowTable],
     owners: &[Option<Owner>],
-    steps: &[Step],
+    said: &Said,
 ) -> Result<Notes, OutOfMemory>
     requires inferable { IsInferable program.now }
     requires sized { AreSized program.now tables.now }
+    requires inside { (x : ReadAt) → said.now.read ≡ Some x
+        → x.body < length program.now.bodies }
     requires owners { AreOwners program.now owners.now }
-    ensures { IfOk result (λ notes.
-        AreBy program.now names.now sig.now tables.now steps.now notes) }
+    ensures { IfOk result (λ notes. (steps : List Step) → said.now ≡ said_of program.now steps
+        → AreBy program.now names.now sig.now tables.now steps notes) }
 {
-    let told = told(alloc, steps)?;
-    let voids = find_voids(alloc, program, names, sig, tables, steps)?;
-    let notes = noted(alloc, program, names, owners, voids, &told)?;
+    let voids = find_voids(alloc, program, names, sig, tables, said.read)?;
+    let notes = noted(alloc, program, names, owners, voids, &said.told)?;
     Ok(notes)
 }
 
-/// The notes of an item from which a chain goes, with what is known of chains.
+/// The notes of an item of whose chain something is said.
+fn notes_said(
+    alloc: Global,
+    program: &Program,
+    names: &Names,
+    sig: &Sig,
+    tables: &[FlowTable],
+    origins: &LeastOrigins,
+    said: &Kept<Said>,
+    owners: &[Option<Owner>],
+    item: Item,
+) -> Result<Notes, OutOfMemory>
+    requires inferable { IsInferable program.now }
+    requires sized { AreSized program.now tables.now }
+    requires program { origins.now.program ≡ program.now }
+    requires sig { origins.now.sig ≡ sig.now }
+    requires tables { origins.now.tables ≡ tables.now }
+    requires said { AreSaid origins.now (kept_of Said said.now) }
+    requires there { IsEnd Said (kept_of Said said.now) (Some item) }
+    requires chain { HasChain program.now origins.now.sig origins.now.tables item }
+    requires owners { AreOwners program.now owners.now }
+    ensures { IfOk result
+        (λ notes. AreFrom program.now names.now sig.now tables.now (Some item) notes) }
+{
+    shortest_ways_are_first_chains();
+    let _origins = origins;
+    match said.get(item) {
+        None => unreachable!(),
+        Some(said) => {
+            let notes = notes_by(alloc, program, names, sig, tables, owners, said)?;
+            Ok(notes)
+        }
+    }
+}
+
+/// The notes of an item from which a chain goes, with what is known of chains and what is said of them.
 fn next_notes_from(
     alloc: Global,
     program: &Program,
@@ -266,6 +291,7 @@ fn next_notes_from(
     tables: &[FlowTable],
     origins: &LeastOrigins,
     chains: &mut Chains,
+    said: &mut Kept<Said>,
     owners: &[Option<Owner>],
     item: Item,
 ) -> Result<Notes, OutOfMemory>
@@ -275,14 +301,18 @@ fn next_notes_from(
     requires sig { origins.now.sig ≡ sig.now }
     requires tables { origins.now.tables ≡ tables.now }
     requires rests { AreRests origins.now (rest_of chains.old) }
+    requires said { AreSaid origins.now (kept_of Said said.old) }
     requires chain { HasChain program.now origins.now.sig origins.now.tables item }
     requires owners { AreOwners program.now owners.now }
     ensures rests { IfOk result (λ notes. AreRests origins.now (rest_of chains.new)) }
+    ensures said { IfOk result (λ notes. AreSaid origins.now (kept_of Said said.new)) }
     ensures notes { IfOk result
         (λ notes. AreFrom program.now names.now sig.now tables.now (Some item) notes) }
 {
-    let steps = chain_from(alloc, program, origins, chains, item)?;
-    let notes = notes_by(alloc, program, names, sig, tables, owners, &steps)?;
+    say(alloc, program, origins, chains, said, item)?;
+    let notes = notes_said(
+        alloc, program, names, sig, tables, origins, said, owners, item,
+    )?;
     Ok(notes)
 }
 
@@ -310,6 +340,7 @@ pub fn notes_from(
     ensures { IfOk result (λ notes. AreFrom program.now names.now sig.now tables.now (Some item) notes) }
 {
     let mut chains = Chains::new(alloc);
+    let mut said = Kept::new(alloc);
     let notes = next_notes_from(
         alloc,
         program,
@@ -318,6 +349,7 @@ pub fn notes_from(
         tables,
         origins,
         &mut chains,
+        &mut said,
         owners,
         item,
     )?;
@@ -333,6 +365,7 @@ fn notes_behind(
     tables: &[FlowTable],
     origins: &LeastOrigins,
     chains: &mut Chains,
+    said: &mut Kept<Said>,
     owners: &[Option<Owner>],
     row: Row,
     item: Option<Item>,
@@ -344,9 +377,11 @@ fn notes_behind(
     requires sig { origins.now.sig ≡ sig.now }
     requires tables { origins.now.tables ≡ tables.now }
     requires rests { AreRests origins.now (rest_of chains.old) }
+    requires said { AreSaid origins.now (kept_of Said said.old) }
     requires owners { AreOwners program.now owners.now }
     requires item { item ≡ item_of program.now sig.now row tables.now }
     ensures rests { IfOk result (λ notes. AreRests origins.now (rest_of chains.new)) }
+    ensures said { IfOk result (λ notes. AreSaid origins.now (kept_of Said said.new)) }
     ensures notes { IfOk result
         (λ notes. AreFrom program.now names.now sig.now tables.now item notes) }
 {
@@ -356,7 +391,7 @@ fn notes_behind(
     match item {
         None => Ok(no_notes(alloc)),
         Some(item) => next_notes_from(
-            alloc, program, names, sig, tables, origins, chains, owners, item,
+            alloc, program, names, sig, tables, origins, chains, said, owners, item,
         ),
     }
 }
@@ -411,6 +446,7 @@ fn notes_of(
     overriders: &[Overrider],
     origins: &LeastOrigins,
     chains: &mut Chains,
+    said: &mut Kept<Said>,
     sites: &Sites<Spot>,
     owners: &[Option<Owner>],
     row: Row,
@@ -423,16 +459,18 @@ fn notes_of(
     requires sig { origins.now.sig ≡ sig.now }
     requires tables { origins.now.tables ≡ tables.now }
     requires rests { AreRests origins.now (rest_of chains.old) }
+    requires said { AreSaid origins.now (kept_of Said said.old) }
     requires sites { AreSites program.now sites.now }
     requires owners { AreOwners program.now owners.now }
     ensures rests { IfOk result (λ notes. AreRests origins.now (rest_of chains.new)) }
+    ensures said { IfOk result (λ notes. AreSaid origins.now (kept_of Said said.new)) }
     ensures notes { IfOk result
         (λ notes. AreNotes program.now names.now sig.now tables.now row notes) }
 {
     let topics = topics_of(alloc, program, sig, tables, overriders, sites, row)?;
     let item = item_at(program, sig, tables, overriders, sites, row);
     let behind = notes_behind(
-        alloc, program, names, sig, tables, origins, chains, owners, row, item,
+        alloc, program, names, sig, tables, origins, chains, said, owners, row, item,
     )?;
     let behind = preceded(alloc, program, item, behind)?;
     let notes = headed(alloc, program, names, row, &topics, behind)?;
@@ -466,6 +504,7 @@ fn notes_of_each(
     let places = find_near(alloc, program, overriders, &spans)?;
     let sites = find_sites(alloc, program, &spans)?;
     let mut chains = Chains::new(alloc);
+    let mut said = Kept::new(alloc);
     let mut list = Vec::new(alloc);
     for row in rows {
         let notes = notes_of(
@@ -477,6 +516,7 @@ fn notes_of_each(
             overriders_at(&places, program, overriders, row.span),
             origins,
             &mut chains,
+            &mut said,
             &sites,
             owners,
             *row,

@@ -1,8 +1,8 @@
 //! Notes below rows: which field, parameter or other declaration a row speaks of, and where its qualifier comes from, step by step, with a place of
 //! the text for each.
 //!
-//! [`notes_of_rows`] finds what takes the value of each row, what is overridden or left unassigned there ([`topics`]), and the first chain of causes of
-//! the value ([`jn_chain::next_first_chain`]), and says in words what is told of these. Rows of what is whole where the other is taken have no chain.
+//! [`notes_of_rows`] finds what takes the value of each row, what is overridden or left unassigned there ([`topics`]), and what is said of the
+//! first chain of causes of the value ([`said`]), and says in words what is told of these. Rows of what is whole where the other is taken have no chain.
 #![tactic(auto)]
 
 pub mod changes;
@@ -12,6 +12,7 @@ pub mod law;
 pub mod lefts;
 pub mod pairs;
 pub mod reads;
+pub mod said;
 pub mod tables;
 pub mod takers;
 pub mod topics;

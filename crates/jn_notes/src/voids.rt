@@ -1,9 +1,10 @@
 //! The notes of a test or an assignment that something made void.
-ghost use Rattle.std.specs.Prelude.{◌≡◌, ◌<◌, [], length, IfOk, None, Some, slice_index_or};
+ghost use Rattle.std.specs.Prelude.{◌≡◌, ◌<◌, [], length, IfOk, None, Some, cond, slice_index_or};
 ghost use Rattle.jn_points.specs.Lookup.{field_info, method_in, point_at, static_of};
 ghost use Rattle.jn_origins.specs.Standing.{AreSized};
 ghost use Rattle.jn_tables_law.specs.Inferable.{IsInferable};
 ghost use Rattle.jn_voided.specs.Voided.{IsFound};
+ghost use Rattle.jn_notes.specs.declared.voids.ReadAt.{ReadAt};
 ghost use Rattle.jn_notes.specs.Voids as spec;
 ghost use Rattle.jn_note_words.specs.Worded.{point_span};
 
@@ -88,20 +89,19 @@ fn goes_on(step: Step) -> bool
     }
 }
 
-/// The first read of a field of a chain's steps, before they leave the registers.
-pub(crate) fn read_in(program: &Program, steps: &[Step]) -> Option<ReadAt>
-    ensures { result ≡ spec.read_in program.now steps.now }
+/// The first read of a field of a chain's steps, before they leave the registers, by its first step and that of the steps behind.
+pub(crate) fn read_with(program: &Program, step: Step, behind: Option<ReadAt>) -> Option<ReadAt>
+    ensures { result ≡ spec.or_read (spec.read_from program.now step.item step.place)
+        (cond (spec.goes_on step) behind None) }
 {
-    for step in steps {
-        let found = read_from(program, step.item, step.place);
-        if found.is_some() {
-            return found;
-        }
-        if !goes_on(*step) {
-            return None;
-        }
+    let found = read_from(program, step.item, step.place);
+    if found.is_some() {
+        found
+    } else if goes_on(step) {
+        behind
+    } else {
+        None
     }
-    None
 }
 
 /// Whether the object is the body's own.
@@ -310,14 +310,15 @@ pub fn find_voids(
     names: &Names,
     sig: &Sig,
     tables: &[FlowTable],
-    steps: &[Step],
+    read: Option<ReadAt>,
 ) -> Result<Vec<Note>, OutOfMemory>
     requires inferable { IsInferable program.now }
     requires sized { AreSized program.now tables.now }
-    ensures { IfOk result (λ notes. spec.AreVoids program.now names.now sig.now tables.now
-        (spec.read_in program.now steps.now) notes.items) }
+    requires inside { (x : ReadAt) → read ≡ Some x → x.body < length program.now.bodies }
+    ensures { IfOk result (λ notes.
+        spec.AreVoids program.now names.now sig.now tables.now read notes.items) }
 {
-    match read_in(program, steps) {
+    match read {
         None => Ok(Vec::new(alloc)),
         Some(read) => voids_of(alloc, program, names, sig, tables, read),
     }

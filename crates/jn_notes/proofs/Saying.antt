@@ -1,0 +1,87 @@
+-- What is said of items, one more and step by step.
+use Rattle.std.proofs.Common.{◌≡◌, ◌⊎◌, ⊎_elim, ℕ, ◌+◌, ◌-◌, ◌<◌, ◌≤◌, List, [], ◌∷◌, length, take, Option, Some, None, refl, sym, ap, ◌∙◌, subst, arith}
+use Rattle.std.specs.Prelude.{slice_index_or}
+use Rattle.std.proofs.lemmas.List.{take_all}
+use Rattle.jn_points.specs.declared.program.Program.{Program}
+use Rattle.jn_reasons_law.specs.declared.item.Item.{Item}
+use Rattle.jn_reasons_law.specs.declared.item.Step.{Step}
+use Rattle.jn_chain.specs.declared.chains.Rest.{Rest}
+use Rattle.jn_chain.specs.Keys.{Key, IsEnd, IsPut, kept_of}
+use Rattle.jn_chain.specs.Search.{AreRests, Ground, IsKnownStep, IsPath, IsShortestWay}
+use Rattle.jn_chain.proofs.Walks.{no_way, path_less, way_more}
+use Rattle.jn_notes.specs.declared.said.Said.{Said}
+use Rattle.jn_notes.specs.declared.voids.ReadAt.{ReadAt}
+use Rattle.jn_notes.specs.Said.{AreSaid, IsSaid, said_of}
+use Rattle.jn_notes.proofs.Leaving.{read_inside}
+
+some_said : (a b : Said) → Some a ≡ Some b → a ≡ b
+some_said a b e = cc
+
+-- ---- what is kept
+
+-- at first nothing is said
+pub none_said : (G : Ground) (entries : List (Key × Said)) → entries ≡ [] → AreSaid G (kept_of Said entries)
+none_said G entries e x said h = absurd (never (sym (ap (λ (es : List (Key × Said)). kept_of Said es x) e) ∙ h))
+  where
+    never : None ≡ Some said → ⊥
+    never e = cc
+
+-- what is said now is so
+pub said_more : (G : Ground) (x : Item) (said : Said) (old new : Item → Option Said) → AreSaid G old → IsSaid G x said → IsPut x said old new → AreSaid G new
+said_more G x said old new h is put y other e = ⊎_elim (λ (same : y ≡ x). here same) (λ (stays : new y ≡ old y). h y other (sym stays ∙ e)) (put.others y)
+  where
+    here : y ≡ x → IsSaid G y other
+    here same =
+        let one : said ≡ other = some_said said other (sym put.here ∙ ap new (sym same) ∙ e) in
+        subst (λ (z : Item). IsSaid G z other) (sym same) (subst (IsSaid G x) one is)
+
+-- ---- step by step
+
+module _ (G : Ground) (K : Item → Option Rest) (R : AreRests G K) where
+  pub said_last : (P : Program) (x : Step) (nothing said : Said) → G.program ≡ P → IsKnownStep G K x None → nothing ≡ said_of P []
+      → ((steps : List Step) → nothing ≡ said_of P steps → said ≡ said_of P (x ∷ steps)) → IsSaid G x.item said
+  said_last P x nothing said p k e h = record {
+    steps = x ∷ [];
+    way = way_more G K R x None [] k (no_way G K R);
+    is = h [] e ∙ ap (λ (Q : Program). said_of Q (x ∷ [])) (sym p);
+  }
+
+  pub said_behind : (P : Program) (x : Step) (y : Item) (behind said : Said) → G.program ≡ P → IsKnownStep G K x (Some y) → IsSaid G y behind
+      → ((steps : List Step) → behind ≡ said_of P steps → said ≡ said_of P (x ∷ steps)) → IsSaid G x.item said
+  said_behind P x y behind said p k b h = record {
+    steps = x ∷ b.steps;
+    way = way_more G K R x (Some y) b.steps k b.way;
+    is = h b.steps (b.is ∙ ap (λ (Q : Program). said_of Q b.steps) p) ∙ ap (λ (Q : Program). said_of Q (x ∷ b.steps)) (sym p);
+  }
+
+-- ---- from the last step back
+
+module _ (G : Ground) (K : Item → Option Rest) (item : Item) (steps : List Step) where
+  pub back_start : (stop : Option Item) → IsPath G K (Some item) steps stop → IsPath G K (Some item) (take (length steps - 0) steps) stop
+  back_start stop p = subst (λ (l : List Step). IsPath G K (Some item) l stop) (sym (take_all (length steps - 0) steps (omega arith))) p
+
+  pub back_step : (stop : Option Item) (done : ℕ) (d : Step) → done < length steps → IsPath G K (Some item) (take (length steps - done) steps) stop
+      → IsPath G K (Some item) (take (length steps - (done + 1)) steps) (Some (slice_index_or steps (length steps - 1 - done) d).item) × IsKnownStep G K (slice_index_or steps (length steps - 1 - done) d) stop
+  back_step stop done d lt p =
+      let at : ℕ = length steps - 1 - done in
+      let more : length steps - done ≡ at + 1 = omega (arith, lt) in
+      let less : at ≡ length steps - (done + 1) = omega (arith, lt) in
+      let r = path_less G K (Some item) stop steps at d (omega (arith, lt)) (subst (λ (n : ℕ). IsPath G K (Some item) (take n steps) stop) more p) in
+      (subst (λ (n : ℕ). IsPath G K (Some item) (take n steps) (Some (slice_index_or steps at d).item)) less r.0, r.1)
+
+  pub back_done : (next : Option Item) (done : ℕ) (says : Item → Option Said) → length steps ≤ done → IsPath G K (Some item) (take (length steps - done) steps) next → IsEnd Said says next → IsEnd Said says (Some item)
+  back_done next done says le p e = by next (length steps - done) (omega (arith, le)) p e
+    where
+      by : (y : Option Item) (n : ℕ) → n ≡ 0 → IsPath G K (Some item) (take n steps) y → IsEnd Said says y → IsEnd Said says (Some item)
+      by y n z p e = subst (IsEnd Said says) (sym (subst (λ (m : ℕ). IsPath G K (Some item) (take m steps) y) z p)) e
+
+-- the read is in a body that is there
+pub said_inside : (G : Ground) (P : Program) (x : Item) (said : Said) → G.program ≡ P → IsSaid G x said → (read : ReadAt) → said.read ≡ Some read → read.body < length P.bodies
+said_inside G P x said p h read e = subst (λ (Q : Program). read.body < length Q.bodies) p (read_inside G.program h.steps read (sym (ap (λ (y : Said). y.read) h.is) ∙ e))
+
+-- what is kept of an item is there
+pub end_there : (says : Item → Option Said) (x : Item) → IsEnd Said says (Some x) → says x ≡ None → ⊥
+end_there says x h none = clash h.0 (sym h.1 ∙ none)
+  where
+    clash : (said : Said) → Some said ≡ None → ⊥
+    clash said e = cc
