@@ -124,6 +124,6 @@ module _ {A S : Type 0} where
       by y true h = inl (item_same item y (one_source (Some item) (Some y) (alike (key_of (Some item)) (key_of (Some y)) (ap (λ (k : Key). key_eq k (key_of (Some y))) (sym is) ∙ h))))
       by y false h = inr (updates (key_of (Some y)) ∙ ap (λ (t : Bool). cond t (Some value) (get key_eq old (key_of (Some y)))) h ∙ ap (lookup (key_eq (key_of (Some y)))) e)
 
-  -- the same, seen from an item that ends a walk
-  pub end_some : (entries : List (Key × A)) (x : Item) (value : A) → kept_of A entries x ≡ Some value → IsEnd A (kept_of A entries) (Some x)
-  end_some entries x value e = (value, e)
+-- the same, seen from an item that ends a walk
+pub end_some : {A : Type 0} (entries : List (Key × A)) (x : Item) (value : A) → kept_of A entries x ≡ Some value → IsEnd A (kept_of A entries) (Some x)
+end_some {A} entries x value e = (value, e)

@@ -1,6 +1,5 @@
 -- What is told of a chain by one step more.
-use Rattle.std.proofs.Common.{◌≡◌, ℕ, zero, suc, ◌+◌, ◌-◌, ◌<◌, Bool, true, false, ◌||◌, cond, List, [], ◌∷◌, ◌++◌, length, drop, take, refl, sym, ap, ◌∙◌, arith}
-use Rattle.std.specs.Prelude.{eqb}
+use Rattle.std.proofs.Common.{◌≡◌, ℕ, zero, suc, ◌+◌, ◌-◌, ◌<◌, Bool, true, false, cond, List, [], ◌∷◌, ◌++◌, length, drop, take, refl, sym, ap, ◌∙◌, arith}
 use Rattle.std.proofs.lemmas.List.{length-append, length_push}
 use Rattle.jn_reasons_law.specs.declared.item.Item.{Item}
 use Rattle.jn_reasons_law.specs.declared.item.Item.TheVariants.{AtSlot, AtRegister}
@@ -23,26 +22,15 @@ some_told x (y ∷ more) =
     let some = some_told y more in
     omega (arith, e, sum, some)
 
--- it is the last one, or a slot's
-pub step_told : (x : Step) (xs : List Step) (n : ℕ) (slot : Bool) → n ≡ length (told xs) → slot ≡ is_slot x.item → (eqb n 0 || slot) ≡ true → told (x ∷ xs) ≡ x ∷ told xs
-step_told x [] n slot e s h = refl
-step_told x (y ∷ more) n slot e s h = tell_is x.item x (told (y ∷ more)) ∙ ap (λ (t : Bool). cond t (x ∷ []) [] ++ told (y ∷ more)) (sym s ∙ by n (some_told y more) e h)
-  where
-    by : (n : ℕ) → 0 < length (told (y ∷ more)) → n ≡ length (told (y ∷ more)) → (eqb n 0 || slot) ≡ true → slot ≡ true
-    by zero lt e h = absurd (omega (arith, lt, e))
-    by (suc n) lt e h = h
+-- where it is the last one
+pub last_told : (x : Step) (n : ℕ) (ends : Bool) → n ≡ 0 → ends ≡ true → (steps : List Step) → n ≡ length (told steps) → told (x ∷ steps) ≡ cond ends (x ∷ []) [] ++ told steps
+last_told x n ends z t [] e = ap (λ (b : Bool). cond b (x ∷ []) [] ++ []) (sym t)
+last_told x n ends z t (y ∷ more) e = let some = some_told y more in absurd (omega (arith, some, e, z))
 
-pub step_untold : (x : Step) (xs : List Step) (n : ℕ) (slot : Bool) → n ≡ length (told xs) → slot ≡ is_slot x.item → (eqb n 0 || slot) ≡ false → told (x ∷ xs) ≡ told xs
-step_untold x [] n slot e s h = absurd (by n e h)
-  where
-    by : (n : ℕ) → n ≡ 0 → (eqb n 0 || slot) ≡ false → ⊥
-    by zero e h = cc
-    by (suc n) e h = omega (arith, e)
-step_untold x (y ∷ more) n slot e s h = tell_is x.item x (told (y ∷ more)) ∙ ap (λ (t : Bool). cond t (x ∷ []) [] ++ told (y ∷ more)) (sym s ∙ by (eqb n 0) h)
-  where
-    by : (t : Bool) → (t || slot) ≡ false → slot ≡ false
-    by true h = absurd cc
-    by false h = h
+-- and where it isn't
+pub other_told : (x : Step) (n : ℕ) (slot : Bool) → (n ≡ 0 → ⊥) → slot ≡ is_slot x.item → (steps : List Step) → n ≡ length (told steps) → told (x ∷ steps) ≡ cond slot (x ∷ []) [] ++ told steps
+other_told x n slot z s [] e = absurd (z e)
+other_told x n slot z s (y ∷ more) e = tell_is x.item x (told (y ∷ more)) ∙ ap (λ (b : Bool). cond b (x ∷ []) [] ++ told (y ∷ more)) (sym s)
 
 -- ---- the first ones and the last
 
@@ -54,7 +42,7 @@ drop_front : (f rest : List Step) → drop (length f) (f ++ rest) ≡ rest
 drop_front [] rest = refl
 drop_front (x ∷ f) rest = drop_front f rest
 
-take_none : (k : ℕ) → take k [] ≡ []
+take_none : (k : ℕ) → ◌≡◌ {A = List Step} (take k []) []
 take_none zero = refl
 take_none (suc k) = refl
 
@@ -72,12 +60,12 @@ take_with : (k : ℕ) (x : Step) (f : List Step) → take k (x ∷ take k f) ≡
 take_with zero x f = refl
 take_with (suc k) x f = ap (λ (l : List Step). x ∷ l) (take_fewer k f)
 
-front_of : List Step → List Step
+abbrev front_of : List Step → List Step
 front_of [] = []
 front_of (x ∷ []) = []
 front_of (x ∷ y ∷ more) = x ∷ front_of (y ∷ more)
 
-end_of : Step → List Step → Step
+abbrev end_of : Step → List Step → Step
 end_of x [] = x
 end_of x (y ∷ more) = end_of y more
 
@@ -148,17 +136,22 @@ module _ (most : ℕ) where
   told_same : (a : Told) (n : ℕ) (l : List Step) → a.count ≡ n → a.shown ≡ l → a ≡ record { count = n; shown = l }
   told_same a n l e h = λ i. record { count = e i; shown = h i }
 
-  pub told_more : (x : Step) (behind new : Told) (slot : Bool) → slot ≡ is_slot x.item → (eqb behind.count 0 || slot) ≡ true
-      → new.count ≡ behind.count + 1 → new.shown ≡ shown most (x ∷ behind.shown) → (steps : List Step) → behind ≡ told_of most steps → new ≡ told_of most (x ∷ steps)
-  told_more x behind new slot s h c l steps e =
-      let n : behind.count ≡ length (told steps) = ap (λ (t : Told). t.count) e in
-      let t : told (x ∷ steps) ≡ x ∷ told steps = step_told x steps behind.count slot n s h in
+  abbrev IsTold : Step → ℕ → Bool → Type 0
+  IsTold x n t = (steps : List Step) → n ≡ length (told steps) → told (x ∷ steps) ≡ cond t (x ∷ []) [] ++ told steps
+
+  pub told_more : (x : Step) (behind new : Told) (t : Bool) → IsTold x behind.count t → t ≡ true → new.count ≡ behind.count + 1 → new.shown ≡ shown most (x ∷ behind.shown)
+      → (steps : List Step) → behind ≡ told_of most steps → new ≡ told_of most (x ∷ steps)
+  told_more x behind new t is h c l steps e =
+      let n : behind.count ≡ length (told steps) = ap (λ (a : Told). a.count) e in
+      let whole : told (x ∷ steps) ≡ x ∷ told steps = is steps n ∙ ap (λ (b : Bool). cond b (x ∷ []) [] ++ told steps) h in
       let count : new.count ≡ length (x ∷ told steps) = omega (arith, c, n) in
       told_same new (length (x ∷ told steps)) (shown most (x ∷ told steps)) count
-      (l ∙ ap (λ (t : Told). shown most (x ∷ t.shown)) e ∙ shown_more x (told steps))
-      ∙ ap (λ (u : List Step). record { count = length u; shown = shown most u }) (sym t)
+      (l ∙ ap (λ (a : Told). shown most (x ∷ a.shown)) e ∙ shown_more x (told steps))
+      ∙ ap (λ (u : List Step). record { count = length u; shown = shown most u }) (sym whole)
 
-  pub told_no_more : (x : Step) (behind new : Told) (slot : Bool) → slot ≡ is_slot x.item → (eqb behind.count 0 || slot) ≡ false
-      → new ≡ behind → (steps : List Step) → behind ≡ told_of most steps → new ≡ told_of most (x ∷ steps)
-  told_no_more x behind new slot s h is steps e =
-      is ∙ e ∙ ap (λ (u : List Step). record { count = length u; shown = shown most u }) (sym (step_untold x steps behind.count slot (ap (λ (t : Told). t.count) e) s h))
+  pub told_no_more : (x : Step) (behind new : Told) (t : Bool) → IsTold x behind.count t → t ≡ false → new ≡ behind
+      → (steps : List Step) → behind ≡ told_of most steps → new ≡ told_of most (x ∷ steps)
+  told_no_more x behind new t is h same steps e =
+      let n : behind.count ≡ length (told steps) = ap (λ (a : Told). a.count) e in
+      let whole : told (x ∷ steps) ≡ told steps = is steps n ∙ ap (λ (b : Bool). cond b (x ∷ []) [] ++ told steps) h in
+      same ∙ e ∙ ap (λ (u : List Step). record { count = length u; shown = shown most u }) (sym whole)

@@ -1,6 +1,7 @@
 //! What is told of a chain: how many steps, and those of them that are shown.
-ghost use Rattle.std.specs.Prelude.{◌≡◌, ◌-◌, ◌+◌, ◌∷◌, [], ℕ, List, IfOk, take};
+ghost use Rattle.std.specs.Prelude.{◌≡◌, ◌-◌, ◌+◌, ◌++◌, ◌∷◌, [], ℕ, List, IfOk, cond, length, take};
 ghost use Rattle.jn_reasons_law.specs.declared.item.Step.{Step};
+ghost use Rattle.jn_reasons_law.specs.Choice as choice;
 ghost use Rattle.jn_chain.specs.Told.{is_slot, shown, told_of};
 
 use jn_base::{OutOfMemory, Seq};
@@ -21,6 +22,17 @@ fn is_slot(item: Item) -> bool
         Item::AtSlot(_, _) => true,
         Item::AtRegister(_, _, _, _) => false,
     }
+}
+
+/// Whether a step is told before others of which so many are: it is the last one, or a slot's.
+fn is_told(step: Step, behind: usize) -> bool
+    ensures { (steps : List Step) → behind ≡ length (choice.told steps)
+        → choice.told (step ∷ steps) ≡ cond result (step ∷ []) [] ++ choice.told steps }
+{
+    if behind == 0 {
+        return true;
+    }
+    is_slot(step.item)
 }
 
 /// One less, where there is one.
@@ -119,11 +131,10 @@ pub fn told_with(
     ensures { IfOk result (λ told. (steps : List Step)
         → behind.now ≡ told_of most steps → told ≡ told_of most (step ∷ steps)) }
 {
-    if behind.count == 0 || is_slot(step.item) {
+    if is_told(step, behind.count) {
         let told = told_before(alloc, most, step, behind)?;
-        Ok(told)
-    } else {
-        let told = told_behind(alloc, behind)?;
-        Ok(told)
+        return Ok(told);
     }
+    let same = told_behind(alloc, behind)?;
+    Ok(same)
 }

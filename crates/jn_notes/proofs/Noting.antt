@@ -13,11 +13,14 @@ use Rattle.jn_transfer.specs.Sized.{StaysInside}
 use Rattle.jn_tables_law.specs.Inferable.{IsInferable, least_table}
 use Rattle.jn_reasons_law.specs.declared.item.Item.{Item}
 use Rattle.jn_reasons_law.specs.declared.item.Step.{Step}
+use Rattle.jn_reasons_law.specs.Items.{Stands}
+use Rattle.jn_reasons_law.specs.Chains.{HasChain}
 use Rattle.jn_reasons_law.specs.Choice.{IsFirstChain, told}
 use Rattle.jn_chain.specs.declared.shown.Told.{Told}
 use Rattle.jn_chain.specs.Search.{Ground, IsShortestWay}
 use Rattle.jn_chain.specs.Told.{shown, told_of}
 use Rattle.jn_chain.proofs.Telling.{front_same, last_same}
+use Rattle.jn_chain.proofs.Walks.{chain_stands}
 use Rattle.jn_note_words.specs.declared.note.Note.{Note}
 use Rattle.jn_note_words.specs.declared.note.Notes.{Notes}
 use Rattle.jn_notes.specs.Asked.{item_of}
@@ -67,23 +70,27 @@ module _ (P : Program) (names : List (List ℕ)) where
     none_rows [] list e = subst (AreEach P names s tables []) (sym e) tt
     none_rows (row ∷ rows) list e = subst (AreEach P names s tables []) (sym e) tt
 
+  abbrev fronts : List Step → List Note
+  fronts xs = map (note_of P names false) (before_last xs)
+
+  abbrev ends : List Step → List Note
+  ends xs = map (note_of P names true) (last_of xs)
+
+  shown_same : (t : List Step) (voids : List Note) → voids ++ (fronts (shown most_shown t) ++ ends (shown most_shown t)) ≡ voids ++ step_notes P names t
+  shown_same t voids =
+      ap (λ (l : List Step). voids ++ (map (note_of P names false) l ++ ends (shown most_shown t))) (front_same most_shown t)
+      ∙ ap (λ (l : List Step). voids ++ (fronts t ++ map (note_of P names true) l)) (last_same most_shown t)
+
   -- of what is told of a chain
   pub noted_told : (voids first whole : List Note) (told' : Told) (count : ℕ) → first ≡ voids ++ map (note_of P names false) (before_last told'.shown) → whole ≡ first ++ map (note_of P names true) (last_of told'.shown) → count ≡ told'.count - most_shown
       → (steps : List Step) → told' ≡ told_of most_shown steps → record { shown = whole; more = count } ≡ noted P names voids (told steps)
   noted_told voids first whole told' count e f n steps is = λ i. record { shown = shown_is i; more = (n ∙ ap (λ (t : Told). t.count - most_shown) is) i }
     where
-      before : List Step → List Note
-      before xs = map (note_of P names false) (before_last xs)
-
-      last : List Step → List Note
-      last xs = map (note_of P names true) (last_of xs)
-
       shown_is : whole ≡ voids ++ step_notes P names (told steps)
       shown_is =
-          f ∙ ap (λ (l : List Note). l ++ last told'.shown) e ∙ append_assoc voids (before told'.shown) (last told'.shown)
-          ∙ ap (λ (t : Told). voids ++ (before t.shown ++ last t.shown)) is
-          ∙ ap (λ (l : List Step). voids ++ (map (note_of P names false) l ++ last (shown most_shown (told steps)))) (front_same most_shown (told steps))
-          ∙ ap (λ (l : List Step). voids ++ (before (told steps) ++ map (note_of P names true) l)) (last_same most_shown (told steps))
+          f ∙ ap (λ (l : List Note). l ++ ends told'.shown) e ∙ append_assoc voids (fronts told'.shown) (ends told'.shown)
+          ∙ ap (λ (t : Told). voids ++ (fronts t.shown ++ ends t.shown)) is
+          ∙ shown_same (told steps) voids
 
   -- of what is said of a chain
   pub by_said : (s : List Qualifier) (tables : List Table) (said : Said) (voids : List Note) (notes : Notes) → AreVoids P names s tables said.read voids
@@ -93,11 +100,11 @@ module _ (P : Program) (names : List (List ℕ)) where
 
   -- of what is said of an item
   pub from_said : (s : List Qualifier) (tables : List Table) (G : Ground) (x : Item) (said : Said) (notes : Notes) → G.program ≡ P → G.sig ≡ s → G.tables ≡ tables → IsSaid G x said
-      → ((steps : List Step) → IsShortestWay G (Some x) steps → IsFirstChain G.program G.sig G.tables x steps)
+      → HasChain P G.sig G.tables x → ((F : Ground) (y : Item) (steps : List Step) → Stands F.sig F.tables y → IsShortestWay F (Some y) steps → IsFirstChain F.program F.sig F.tables y steps)
       → ((steps : List Step) → said ≡ said_of P steps → AreBy P names s tables steps notes) → AreFrom P names s tables (Some x) notes
-  from_said s tables G x said notes p q t h law n = (
+  from_said s tables G x said notes p q t h chain law n = (
     h.steps,
-    subst (λ (us : List Table). IsFirstChain P s us x h.steps) t (subst (λ (r : List Qualifier). IsFirstChain P r G.tables x h.steps) q (subst (λ (Q : Program). IsFirstChain Q G.sig G.tables x h.steps) p (law h.steps h.way))),
+    subst (λ (us : List Table). IsFirstChain P s us x h.steps) t (subst (λ (r : List Qualifier). IsFirstChain P r G.tables x h.steps) q (subst (λ (Q : Program). IsFirstChain Q G.sig G.tables x h.steps) p (law G x h.steps (chain_stands G x (subst (λ (Q : Program). HasChain Q G.sig G.tables x) (sym p) chain)) h.way))),
     n h.steps (h.is ∙ ap (λ (Q : Program). said_of Q h.steps) p),
   )
 

@@ -1,17 +1,21 @@
 -- What is said of items, one more and step by step.
-use Rattle.std.proofs.Common.{◌≡◌, ◌⊎◌, ⊎_elim, ℕ, ◌+◌, ◌-◌, ◌<◌, ◌≤◌, List, [], ◌∷◌, length, take, Option, Some, None, refl, sym, ap, ◌∙◌, subst, arith}
+use Rattle.std.proofs.Common.{◌≡◌, cond, ◌⊎◌, ⊎_elim, ℕ, ◌+◌, ◌-◌, ◌<◌, ◌≤◌, List, [], ◌∷◌, length, take, Option, Some, None, refl, sym, ap, ◌∙◌, subst, arith}
 use Rattle.std.specs.Prelude.{slice_index_or}
 use Rattle.std.proofs.lemmas.List.{take_all}
 use Rattle.jn_points.specs.declared.program.Program.{Program}
 use Rattle.jn_reasons_law.specs.declared.item.Item.{Item}
 use Rattle.jn_reasons_law.specs.declared.item.Step.{Step}
 use Rattle.jn_chain.specs.declared.chains.Rest.{Rest}
+use Rattle.jn_chain.specs.declared.shown.Told.{Told}
 use Rattle.jn_chain.specs.Keys.{Key, IsEnd, IsPut, kept_of}
 use Rattle.jn_chain.specs.Search.{AreRests, Ground, IsKnownStep, IsPath, IsShortestWay}
+use Rattle.jn_chain.specs.Told.{told_of}
 use Rattle.jn_chain.proofs.Walks.{no_way, path_less, way_more}
 use Rattle.jn_notes.specs.declared.said.Said.{Said}
 use Rattle.jn_notes.specs.declared.voids.ReadAt.{ReadAt}
+use Rattle.jn_notes.specs.Noted.{most_shown}
 use Rattle.jn_notes.specs.Said.{AreSaid, IsSaid, said_of}
+use Rattle.jn_notes.specs.Voids.{goes_on, or_read, read_from, read_in}
 use Rattle.jn_notes.proofs.Leaving.{read_inside}
 
 some_said : (a b : Said) → Some a ≡ Some b → a ≡ b
@@ -37,22 +41,37 @@ said_more G x said old new h is put y other e = ⊎_elim (λ (same : y ≡ x). h
 
 -- ---- step by step
 
+pub said_whole : (P : Program) (x : Step) (behind : Said) (told' : Told) (read : Option ReadAt) → ((steps : List Step) → behind.told ≡ told_of most_shown steps → told' ≡ told_of most_shown (x ∷ steps))
+    → read ≡ or_read (read_from P x.item x.place) (cond (goes_on x) behind.read None)
+    → (steps : List Step) → behind ≡ said_of P steps → record { told = told'; read = read } ≡ said_of P (x ∷ steps)
+said_whole P x behind told' read t r steps e = λ i. record { told = told_is i; read = read_is i }
+  where
+    told_is : told' ≡ told_of most_shown (x ∷ steps)
+    told_is = t steps (ap (λ (a : Said). a.told) e)
+
+    read_is : read ≡ read_in P (x ∷ steps)
+    read_is = r ∙ ap (λ (a : Said). or_read (read_from P x.item x.place) (cond (goes_on x) a.read None)) e
+
 module _ (G : Ground) (K : Item → Option Rest) (R : AreRests G K) where
-  pub said_last : (P : Program) (x : Step) (nothing said : Said) → G.program ≡ P → IsKnownStep G K x None → nothing ≡ said_of P []
-      → ((steps : List Step) → nothing ≡ said_of P steps → said ≡ said_of P (x ∷ steps)) → IsSaid G x.item said
-  said_last P x nothing said p k e h = record {
+  -- a step to the text
+  pub said_last : (P : Program) (x : Step) (next : Option Item) (told' : Told) (said : Said) → G.program ≡ P → IsKnownStep G K x next → next ≡ None → ((most : ℕ) → told' ≡ told_of most [])
+      → ((steps : List Step) → record { told = told'; read = None } ≡ said_of P steps → said ≡ said_of P (x ∷ steps)) → IsSaid G x.item said
+  said_last P x next told' said p k n t h = record {
     steps = x ∷ [];
-    way = way_more G K R x None [] k (no_way G K R);
-    is = h [] e ∙ ap (λ (Q : Program). said_of Q (x ∷ [])) (sym p);
+    way = way_more G K R x None [] (subst (IsKnownStep G K x) n k) (no_way G K R);
+    is = h [] (λ i. record { told = t most_shown i; read = None }) ∙ ap (λ (Q : Program). said_of Q (x ∷ [])) (sym p);
   }
 
-  pub said_behind : (P : Program) (x : Step) (y : Item) (behind said : Said) → G.program ≡ P → IsKnownStep G K x (Some y) → IsSaid G y behind
+  -- a step to an item of which something is said
+  pub said_behind : (P : Program) (x : Step) (next : Option Item) (y : Item) (says : Item → Option Said) (behind said : Said) → G.program ≡ P → IsKnownStep G K x next → next ≡ Some y → AreSaid G says → says y ≡ Some behind
       → ((steps : List Step) → behind ≡ said_of P steps → said ≡ said_of P (x ∷ steps)) → IsSaid G x.item said
-  said_behind P x y behind said p k b h = record {
-    steps = x ∷ b.steps;
-    way = way_more G K R x (Some y) b.steps k b.way;
-    is = h b.steps (b.is ∙ ap (λ (Q : Program). said_of Q b.steps) p) ∙ ap (λ (Q : Program). said_of Q (x ∷ b.steps)) (sym p);
-  }
+  said_behind P x next y says behind said p k n all e h =
+      let b = all y behind e in
+      record {
+        steps = x ∷ b.steps;
+        way = way_more G K R x (Some y) b.steps (subst (IsKnownStep G K x) n k) b.way;
+        is = h b.steps (b.is ∙ ap (λ (Q : Program). said_of Q b.steps) p) ∙ ap (λ (Q : Program). said_of Q (x ∷ b.steps)) (sym p);
+      }
 
 -- ---- from the last step back
 
@@ -85,3 +104,6 @@ end_there says x h none = clash h.0 (sym h.1 ∙ none)
   where
     clash : (said : Said) → Some said ≡ None → ⊥
     clash said e = cc
+
+pub next_there : (says : Item → Option Said) (next : Option Item) (x : Item) → IsEnd Said says next → next ≡ Some x → says x ≡ None → ⊥
+next_there says next x h e none = end_there says x (subst (IsEnd Said says) e h) none

@@ -18,6 +18,7 @@ ghost use Rattle.jn_notes.specs.declared.voids.ReadAt.{ReadAt};
 ghost use Rattle.jn_notes.specs.Said.{AreSaid, said_of};
 ghost use Rattle.jn_reasons_law.specs.Choice as choice;
 ghost use Rattle.jn_origins.specs.Standing.{AreSized};
+ghost use Rattle.jn_voided.specs.Kept.{AreTurned};
 
 use crate::found::register_item_at;
 use crate::pairs::{part_of, slot_item};
@@ -47,6 +48,7 @@ use jn_sigs::Sig;
 use jn_sites::{Sites, find_near, find_sites, overriders_at, spans_of};
 use jn_tables_law::law::rounds_give_the_least_table;
 use jn_trees::Names;
+use jn_voided::Voids;
 use std::alloc::{AllocError, Global};
 
 /// The greatest number of steps that are shown of a row, and of declarations.
@@ -231,6 +233,7 @@ fn notes_by(
     names: &Names,
     sig: &Sig,
     tables: &[FlowTable],
+    voids: &mut Voids,
     owners: &[Option<Owner>],
     said: &Said,
 ) -> Result<Notes, OutOfMemory>
@@ -239,11 +242,13 @@ fn notes_by(
     requires inside { (x : ReadAt) → said.now.read ≡ Some x
         → x.body < length program.now.bodies }
     requires owners { AreOwners program.now owners.now }
-    ensures { IfOk result (λ notes. (steps : List Step) → said.now ≡ said_of program.now steps
+    requires voids { AreTurned program.now sig.now tables.now voids.old }
+    ensures voids { IfOk result (λ notes. AreTurned program.now sig.now tables.now voids.new) }
+    ensures notes { IfOk result (λ notes. (steps : List Step) → said.now ≡ said_of program.now steps
         → AreBy program.now names.now sig.now tables.now steps notes) }
 {
-    let voids = find_voids(alloc, program, names, sig, tables, said.read)?;
-    let notes = noted(alloc, program, names, owners, voids, &said.told)?;
+    let list = find_voids(alloc, program, names, sig, tables, voids, said.read)?;
+    let notes = noted(alloc, program, names, owners, list, &said.told)?;
     Ok(notes)
 }
 
@@ -256,6 +261,7 @@ fn notes_said(
     tables: &[FlowTable],
     origins: &LeastOrigins,
     said: &Kept<Said>,
+    voids: &mut Voids,
     owners: &[Option<Owner>],
     item: Item,
 ) -> Result<Notes, OutOfMemory>
@@ -268,15 +274,17 @@ fn notes_said(
     requires there { IsEnd Said (kept_of Said said.now) (Some item) }
     requires chain { HasChain program.now origins.now.sig origins.now.tables item }
     requires owners { AreOwners program.now owners.now }
-    ensures { IfOk result
+    requires voids { AreTurned program.now sig.now tables.now voids.old }
+    ensures voids { IfOk result (λ notes. AreTurned program.now sig.now tables.now voids.new) }
+    ensures notes { IfOk result
         (λ notes. AreFrom program.now names.now sig.now tables.now (Some item) notes) }
 {
     shortest_ways_are_first_chains();
     let _origins = origins;
     match said.get(item) {
         None => unreachable!(),
-        Some(said) => {
-            let notes = notes_by(alloc, program, names, sig, tables, owners, said)?;
+        Some(found) => {
+            let notes = notes_by(alloc, program, names, sig, tables, voids, owners, found)?;
             Ok(notes)
         }
     }
@@ -292,6 +300,7 @@ fn next_notes_from(
     origins: &LeastOrigins,
     chains: &mut Chains,
     said: &mut Kept<Said>,
+    voids: &mut Voids,
     owners: &[Option<Owner>],
     item: Item,
 ) -> Result<Notes, OutOfMemory>
@@ -302,16 +311,18 @@ fn next_notes_from(
     requires tables { origins.now.tables ≡ tables.now }
     requires rests { AreRests origins.now (rest_of chains.old) }
     requires said { AreSaid origins.now (kept_of Said said.old) }
+    requires voids { AreTurned program.now sig.now tables.now voids.old }
     requires chain { HasChain program.now origins.now.sig origins.now.tables item }
     requires owners { AreOwners program.now owners.now }
     ensures rests { IfOk result (λ notes. AreRests origins.now (rest_of chains.new)) }
     ensures said { IfOk result (λ notes. AreSaid origins.now (kept_of Said said.new)) }
+    ensures voids { IfOk result (λ notes. AreTurned program.now sig.now tables.now voids.new) }
     ensures notes { IfOk result
         (λ notes. AreFrom program.now names.now sig.now tables.now (Some item) notes) }
 {
     say(alloc, program, origins, chains, said, item)?;
     let notes = notes_said(
-        alloc, program, names, sig, tables, origins, said, owners, item,
+        alloc, program, names, sig, tables, origins, said, voids, owners, item,
     )?;
     Ok(notes)
 }
@@ -341,6 +352,7 @@ pub fn notes_from(
 {
     let mut chains = Chains::new(alloc);
     let mut said = Kept::new(alloc);
+    let mut voids = Voids::new(alloc);
     let notes = next_notes_from(
         alloc,
         program,
@@ -350,6 +362,7 @@ pub fn notes_from(
         origins,
         &mut chains,
         &mut said,
+        &mut voids,
         owners,
         item,
     )?;
@@ -366,6 +379,7 @@ fn notes_behind(
     origins: &LeastOrigins,
     chains: &mut Chains,
     said: &mut Kept<Said>,
+    voids: &mut Voids,
     owners: &[Option<Owner>],
     row: Row,
     item: Option<Item>,
@@ -378,10 +392,12 @@ fn notes_behind(
     requires tables { origins.now.tables ≡ tables.now }
     requires rests { AreRests origins.now (rest_of chains.old) }
     requires said { AreSaid origins.now (kept_of Said said.old) }
+    requires voids { AreTurned program.now sig.now tables.now voids.old }
     requires owners { AreOwners program.now owners.now }
     requires item { item ≡ item_of program.now sig.now row tables.now }
     ensures rests { IfOk result (λ notes. AreRests origins.now (rest_of chains.new)) }
     ensures said { IfOk result (λ notes. AreSaid origins.now (kept_of Said said.new)) }
+    ensures voids { IfOk result (λ notes. AreTurned program.now sig.now tables.now voids.new) }
     ensures notes { IfOk result
         (λ notes. AreFrom program.now names.now sig.now tables.now item notes) }
 {
@@ -391,7 +407,7 @@ fn notes_behind(
     match item {
         None => Ok(no_notes(alloc)),
         Some(item) => next_notes_from(
-            alloc, program, names, sig, tables, origins, chains, said, owners, item,
+            alloc, program, names, sig, tables, origins, chains, said, voids, owners, item,
         ),
     }
 }
@@ -447,6 +463,7 @@ fn notes_of(
     origins: &LeastOrigins,
     chains: &mut Chains,
     said: &mut Kept<Said>,
+    voids: &mut Voids,
     sites: &Sites<Spot>,
     owners: &[Option<Owner>],
     row: Row,
@@ -460,17 +477,19 @@ fn notes_of(
     requires tables { origins.now.tables ≡ tables.now }
     requires rests { AreRests origins.now (rest_of chains.old) }
     requires said { AreSaid origins.now (kept_of Said said.old) }
+    requires voids { AreTurned program.now sig.now tables.now voids.old }
     requires sites { AreSites program.now sites.now }
     requires owners { AreOwners program.now owners.now }
     ensures rests { IfOk result (λ notes. AreRests origins.now (rest_of chains.new)) }
     ensures said { IfOk result (λ notes. AreSaid origins.now (kept_of Said said.new)) }
+    ensures voids { IfOk result (λ notes. AreTurned program.now sig.now tables.now voids.new) }
     ensures notes { IfOk result
         (λ notes. AreNotes program.now names.now sig.now tables.now row notes) }
 {
     let topics = topics_of(alloc, program, sig, tables, overriders, sites, row)?;
     let item = item_at(program, sig, tables, overriders, sites, row);
     let behind = notes_behind(
-        alloc, program, names, sig, tables, origins, chains, said, owners, row, item,
+        alloc, program, names, sig, tables, origins, chains, said, voids, owners, row, item,
     )?;
     let behind = preceded(alloc, program, item, behind)?;
     let notes = headed(alloc, program, names, row, &topics, behind)?;
@@ -505,6 +524,7 @@ fn notes_of_each(
     let sites = find_sites(alloc, program, &spans)?;
     let mut chains = Chains::new(alloc);
     let mut said = Kept::new(alloc);
+    let mut voids = Voids::new(alloc);
     let mut list = Vec::new(alloc);
     for row in rows {
         let notes = notes_of(
@@ -517,6 +537,7 @@ fn notes_of_each(
             origins,
             &mut chains,
             &mut said,
+            &mut voids,
             &sites,
             owners,
             *row,

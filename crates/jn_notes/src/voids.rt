@@ -3,15 +3,15 @@ ghost use Rattle.std.specs.Prelude.{◌≡◌, ◌<◌, [], length, IfOk, None, 
 ghost use Rattle.jn_points.specs.Lookup.{field_info, method_in, point_at, static_of};
 ghost use Rattle.jn_origins.specs.Standing.{AreSized};
 ghost use Rattle.jn_tables_law.specs.Inferable.{IsInferable};
+ghost use Rattle.jn_voided.specs.Kept.{AreTurned};
 ghost use Rattle.jn_voided.specs.Voided.{IsFound};
 ghost use Rattle.jn_notes.specs.declared.voids.ReadAt.{ReadAt};
 ghost use Rattle.jn_notes.specs.Voids as spec;
 ghost use Rattle.jn_note_words.specs.Worded.{point_span};
 
-use crate::reads::table_of;
 use jn_base::lists::put;
 use jn_base::{BodyNo, FieldNo, OutOfMemory, PointNo, RegNo, Seq};
-use jn_env::{FieldKey, FlowTable, find_keys};
+use jn_env::{FieldKey, FlowTable};
 use jn_note_words::note::Note;
 use jn_note_words::spans::{point_at, point_span};
 use jn_note_words::words::{add, field_name};
@@ -19,9 +19,8 @@ use jn_points::lookup::method_in;
 use jn_points::{PointKind, Program};
 use jn_reasons_law::{Bit, Item, Place, Step};
 use jn_sigs::Sig;
-use jn_transfer::Analysis;
 use jn_trees::Names;
-use jn_voided::{Voided, first_voided};
+use jn_voided::{Voided, Voids, next_voided};
 use std::alloc::{AllocError, Global};
 
 /// A read of a field: the body, the point, the register of the object, and the field.
@@ -265,20 +264,22 @@ fn find_voided(
     program: &Program,
     sig: &Sig,
     tables: &[FlowTable],
+    voids: &mut Voids,
     read: ReadAt,
 ) -> Result<Option<Voided>, OutOfMemory>
     requires inside { read.body < length program.now.bodies }
     requires inferable { IsInferable program.now }
     requires sized { AreSized program.now tables.now }
-    ensures { IfOk result (λ found. IsFound program.now sig.now read.body
+    requires voids { AreTurned program.now sig.now tables.now voids.old }
+    ensures voids { IfOk result (λ found. AreTurned program.now sig.now tables.now voids.new) }
+    ensures found { IfOk result (λ found. IsFound program.now sig.now read.body
         (slice_index_or tables.now read.body []) (spec.key_of read) read.point found) }
 {
     let body = BodyNo(read.body);
-    let keys = find_keys(alloc, program, body)?;
-    let analysis = Analysis::new(program, sig, body, &keys);
     let key = FieldKey::new(RegNo(read.object), FieldNo(read.field));
-    let table = table_of(tables, body);
-    first_voided(alloc, &analysis, table, key, PointNo(read.point))
+    let point = PointNo(read.point);
+    let found = next_voided(alloc, program, sig, tables, voids, body, key, point)?;
+    Ok(found)
 }
 
 /// The notes of a read.
@@ -288,15 +289,20 @@ fn voids_of(
     names: &Names,
     sig: &Sig,
     tables: &[FlowTable],
+    voids: &mut Voids,
     read: ReadAt,
 ) -> Result<Vec<Note>, OutOfMemory>
     requires inside { read.body < length program.now.bodies }
     requires inferable { IsInferable program.now }
     requires sized { AreSized program.now tables.now }
-    ensures { IfOk result (λ notes. spec.AreVoids program.now names.now sig.now tables.now (Some read) notes.items) }
+    requires voids { AreTurned program.now sig.now tables.now voids.old }
+    ensures voids { IfOk result (λ notes. AreTurned program.now sig.now tables.now voids.new) }
+    ensures notes { IfOk result (λ notes.
+        spec.AreVoids program.now names.now sig.now tables.now (Some read) notes.items) }
 {
-    let found = find_voided(alloc, program, sig, tables, read)?;
-    Ok(void_notes(alloc, program, names, read, found)?)
+    let found = find_voided(alloc, program, sig, tables, voids, read)?;
+    let notes = void_notes(alloc, program, names, read, found)?;
+    Ok(notes)
 }
 
 /// The notes of what made a test or an assignment void, before the read of a field by which the steps of a chain leave its first registers; none where
@@ -310,16 +316,19 @@ pub fn find_voids(
     names: &Names,
     sig: &Sig,
     tables: &[FlowTable],
+    voids: &mut Voids,
     read: Option<ReadAt>,
 ) -> Result<Vec<Note>, OutOfMemory>
     requires inferable { IsInferable program.now }
     requires sized { AreSized program.now tables.now }
     requires inside { (x : ReadAt) → read ≡ Some x → x.body < length program.now.bodies }
-    ensures { IfOk result (λ notes.
+    requires voids { AreTurned program.now sig.now tables.now voids.old }
+    ensures voids { IfOk result (λ notes. AreTurned program.now sig.now tables.now voids.new) }
+    ensures notes { IfOk result (λ notes.
         spec.AreVoids program.now names.now sig.now tables.now read notes.items) }
 {
     match read {
         None => Ok(Vec::new(alloc)),
-        Some(read) => voids_of(alloc, program, names, sig, tables, read),
+        Some(read) => voids_of(alloc, program, names, sig, tables, voids, read),
     }
 }

@@ -11,7 +11,7 @@ use Rattle.jn_voided.specs.declared.course.Passed.{Passed}
 use Rattle.jn_voided.specs.declared.course.Way.{Way}
 use Rattle.jn_voided.specs.declared.search.Voided.{Voided}
 use Rattle.jn_voided.specs.Courses.{is_there}
-use Rattle.jn_voided.specs.Searched.{IsPair, IsFoundBy, pair}
+use Rattle.jn_voided.specs.Searched.{IsPair, IsFoundBy, ended_by, pair}
 use Rattle.jn_voided.specs.Turning.{IsAtMost, TellsTurns, turn_at}
 use Rattle.jn_voided.specs.Voided.{Since, turned, kept, IsVoided, IsFirstVoided, IsFound, course, is_known, knowers, makers, makes}
 
@@ -73,10 +73,10 @@ module _ (at : ℕ → Passed) (maker : ℕ → Bool) (ends : ℕ → Bool) (kno
       let on = ends_there ended ∙ there_if (turn_at known ended) made (tells_known.first made ended p.known) in
       tells_unknown.first ended read (by_others at knower ends false ended on no_end read p.unknown)
 
-  pub none_found : (read : ℕ) → turn_at unknown read ≡ None → IsFoundBy at maker read None
+  none_found : (read : ℕ) → turn_at unknown read ≡ None → IsFoundBy at maker read None
   none_found read is = λ made ended p. none_most (turn_at unknown read) ended is (end_most read made ended p)
 
-  pub pair_found : (read ended : ℕ) (o : Option ℕ) → turn_at unknown read ≡ Some ended → turn_at known ended ≡ o → IsFoundBy at maker read (pair o ended)
+  pair_found : (read ended : ℕ) (o : Option ℕ) → turn_at unknown read ≡ Some ended → turn_at known ended ≡ o → IsFoundBy at maker read (pair o ended)
   pair_found read ended None is none =
       let end = tells_unknown.is read ended is in
       let there = sym (ends_there ended) ∙ begins at ends false ended read end in
@@ -93,6 +93,14 @@ module _ (at : ℕ → Passed) (maker : ℕ → Bool) (ends : ℕ → Bool) (kno
             let low = some_most (turn_at unknown read) last ended is (end_most read other last p) in
             ⊎_elim (λ less. inl less) (λ le. let same : ended ≡ last = omega (arith, low, le) in inr (same, some_most (turn_at known ended) other made first (subst (λ e. IsAtMost (turn_at known e) other) (sym same) (tells_known.first other last p.known)))) (cases_lt ended last);
       }
+
+  -- before each read
+  pub turned_found : (read : ℕ) → IsFoundBy at maker read (ended_by known (turn_at unknown read))
+  turned_found read = by (turn_at unknown read) refl
+    where
+      by : (o : Option ℕ) → turn_at unknown read ≡ o → IsFoundBy at maker read (ended_by known o)
+      by None is = none_found read is
+      by (Some ended) is = pair_found read ended (turn_at known ended) is refl
 
 -- ---- two courses that are the same at each point
 

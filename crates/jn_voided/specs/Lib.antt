@@ -3,3 +3,4 @@ pub mod Courses
 pub mod Turning
 pub mod TurningLaws
 pub mod Searched
+pub mod Kept

@@ -13,7 +13,7 @@ use std::marker::Model;
 
 /// For each point of a body the least source that is the last on a way there, and since which the fact is as wanted; None where there is none.
 #[derive(Drop)]
-pub(crate) struct Turns {
+pub struct Turns {
     slots: Vec<Option<Option<u32>>>,
 }
 

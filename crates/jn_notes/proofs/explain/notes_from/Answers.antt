@@ -6,3 +6,6 @@ next_notes_from-requires-clause-rests c = c.new-chains.ensures c.args.origins.no
 
 pub next_notes_from-requires-clause-said : goal.next_notes_from-requires-clause-said
 next_notes_from-requires-clause-said c = none_said c.args.origins.now c.new-said.result c.new-said.ensures
+
+pub next_notes_from-requires-clause-voids : goal.next_notes_from-requires-clause-voids
+next_notes_from-requires-clause-voids c = c.new-voids.ensures c.args.program.now c.args.sig.now c.args.tables.now

@@ -8,6 +8,7 @@ loop-row-init c = (
   none_rows c.args.program.now c.args.names.now c.args.sig.now c.args.tables.now c.args.rows.now c.new-list.result.items c.new-list.ensures.items,
   c.new-chains.ensures c.args.origins.now,
   none_said c.args.origins.now c.new-said.result c.new-said.ensures,
+  c.new-voids.ensures c.args.program.now c.args.sig.now c.args.tables.now,
 )
 
 pub loop-row-preserved : goal.loop-row-preserved
@@ -16,4 +17,5 @@ loop-row-preserved c =
       row_more c.args.program.now c.args.names.now c.args.sig.now c.args.tables.now c.args.rows.now c.loop-row.row-index _ c.in_ok-notes.notes c.loop-row.list.items c.put.new.items.items lt c.in_ok-notes.ensures.notes c.in_ok-put.ensures c.loop-row.invariant.0,
       c.in_ok-notes.ensures.rests,
       c.in_ok-notes.ensures.said,
+      c.in_ok-notes.ensures.voids,
     )
