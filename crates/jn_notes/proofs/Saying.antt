@@ -82,11 +82,14 @@ module _ (G : Ground) (K : Item → Option Rest) (item : Item) (steps : List Ste
   pub back_step : (stop : Option Item) (done : ℕ) (d : Step) → done < length steps → IsPath G K (Some item) (take (length steps - done) steps) stop
       → IsPath G K (Some item) (take (length steps - (done + 1)) steps) (Some (slice_index_or steps (length steps - 1 - done) d).item) × IsKnownStep G K (slice_index_or steps (length steps - 1 - done) d) stop
   back_step stop done d lt p =
-      let at : ℕ = length steps - 1 - done in
-      let more : length steps - done ≡ at + 1 = omega (arith, lt) in
-      let less : at ≡ length steps - (done + 1) = omega (arith, lt) in
-      let r = path_less G K (Some item) stop steps at d (omega (arith, lt)) (subst (λ (n : ℕ). IsPath G K (Some item) (take n steps) stop) more p) in
-      (subst (λ (n : ℕ). IsPath G K (Some item) (take n steps) (Some (slice_index_or steps at d).item)) less r.0, r.1)
+      let r = path_less G K (Some item) stop steps (length steps - 1 - done) d (omega (arith, lt)) (subst (λ (n : ℕ). IsPath G K (Some item) (take n steps) stop) (more done lt) p) in
+      (subst (λ (n : ℕ). IsPath G K (Some item) (take n steps) (Some (slice_index_or steps (length steps - 1 - done) d).item)) (less done lt) r.0, r.1)
+    where
+      more : (n : ℕ) → n < length steps → length steps - n ≡ (length steps - 1 - n) + 1
+      more n lt = omega (arith, lt)
+
+      less : (n : ℕ) → n < length steps → length steps - 1 - n ≡ length steps - (n + 1)
+      less n lt = omega (arith, lt)
 
   pub back_done : (next : Option Item) (done : ℕ) (says : Item → Option Said) → length steps ≤ done → IsPath G K (Some item) (take (length steps - done) steps) next → IsEnd Said says next → IsEnd Said says (Some item)
   back_done next done says le p e = by next (length steps - done) (omega (arith, le)) p e

@@ -71,10 +71,22 @@ impl Voids {
         }
     }
 
-    /// Keeps the turns of a fact, and no others where there are many.
+    /// Keeps none from now on, where there are many.
+    fn make_room(&mut self, alloc: Global, program: &Program, sig: &Sig, tables: &[FlowTable])
+        requires { AreTurned program.now sig.now tables.now self.old }
+        ensures { AreTurned program.now sig.now tables.now self.new }
+    {
+        let _program = program;
+        let _sig = sig;
+        let _tables = tables;
+        if self.turned.len() >= MOST_KEPT {
+            *self = Voids::new(alloc);
+        }
+    }
+
+    /// Keeps the turns of a fact.
     fn put(
         &mut self,
-        alloc: Global,
         program: &Program,
         sig: &Sig,
         tables: &[FlowTable],
@@ -83,15 +95,13 @@ impl Voids {
         turned: Turned,
     ) -> Result<(), AllocError>
         requires kept { AreTurned program.now sig.now tables.now self.old }
-        requires turned { IsTurned program.now sig.now body.0 (slice_index_or tables.now body.0 []) key turned }
+        requires turned { IsTurned program.now sig.now body.0
+            (slice_index_or tables.now body.0 []) key turned }
         ensures { OnOk result (AreTurned program.now sig.now tables.now self.new) }
     {
         let _program = program;
         let _sig = sig;
         let _tables = tables;
-        if self.turned.len() >= MOST_KEPT {
-            self.turned = HashMap::new(alloc);
-        }
         match self.turned.insert(numbers_of(body, key), turned) {
             Ok(_) => Ok(()),
             Err(_) => Err(AllocError),
@@ -158,7 +168,8 @@ pub fn next_voided(
         None => {
             let turned = turned_of(alloc, program, sig, tables, body, key)?;
             let found = turned.before(read);
-            voids.put(alloc, program, sig, tables, body, key, turned)?;
+            voids.make_room(alloc, program, sig, tables);
+            voids.put(program, sig, tables, body, key, turned)?;
             Ok(found)
         }
     }
