@@ -1,6 +1,5 @@
 pub mod Asking
 pub mod Alone
-pub mod Sweep
 pub mod Nulls
 pub mod Written
 pub mod Own

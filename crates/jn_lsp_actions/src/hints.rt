@@ -4,9 +4,9 @@ ghost use Rattle.jn_annotate.specs.Puts.{insertions};
 ghost use Rattle.jn_lsp_actions.specs.Hinted as spec;
 
 use crate::asking::meets;
-use crate::sweep::{place_of, start_of};
 use jn_annotate::insert::Put;
 use jn_base::{Seq, Text};
+use jn_lsp_text::sweep::{place_of, start_of};
 use jn_lsp_text::{Encoding, Hint, Position, Range};
 use std::alloc::{AllocError, Global};
 

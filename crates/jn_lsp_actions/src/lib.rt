@@ -24,7 +24,6 @@ pub mod law;
 pub mod mending;
 pub mod nullable;
 pub mod slots;
-pub mod sweep;
 pub mod wants;
 
 pub use files::actions_for;

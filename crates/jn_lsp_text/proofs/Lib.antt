@@ -1,2 +1,3 @@
 pub mod Offsets
 pub mod Steps
+pub mod Sweeping

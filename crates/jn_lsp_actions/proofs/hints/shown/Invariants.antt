@@ -1,7 +1,7 @@
 use Rattle.std.proofs.Common.{◌≡◌, ◌++◌, length}
 use Rattle.jn_annotate.specs.Puts.{insertions}
 use Rattle.jn_lsp_actions.specs.Hinted as spec
-use Rattle.jn_lsp_actions.specs.Sweep.{IsPlaceIn}
+use Rattle.jn_lsp_text.specs.Sweep.{IsPlaceIn}
 use Rattle.jn_lsp_actions.proofs.hints.shown.Given as goal
 
 abbrev pub invariant-loop-rest : goal.invariant-loop-rest

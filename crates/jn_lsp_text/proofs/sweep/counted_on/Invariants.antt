@@ -1,6 +1,6 @@
 use Rattle.std.proofs.Common.{◌≡◌, ◌≤◌, ◌*◌}
 use Rattle.jn_lsp_text.specs.Counting.{counted}
-use Rattle.jn_lsp_actions.proofs.sweep.counted_on.Given as goal
+use Rattle.jn_lsp_text.proofs.sweep.counted_on.Given as goal
 
 abbrev pub invariant-loop-at : goal.invariant-loop-at
 invariant-loop-at l = record {

@@ -1,6 +1,6 @@
 use Rattle.std.proofs.Common.{◌<◌, length, arith}
 use Rattle.jn_lsp_text.proofs.Steps.{next_counted, few}
-use Rattle.jn_lsp_actions.proofs.sweep.counted_on.Goals as goal
+use Rattle.jn_lsp_text.proofs.sweep.counted_on.Goals as goal
 
 pub loop-at-preserved : goal.loop-at-preserved
 loop-at-preserved c =

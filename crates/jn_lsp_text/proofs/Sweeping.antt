@@ -6,8 +6,8 @@ use Rattle.jn_lsp_text.specs.Positions.{position_at, position_behind}
 use Rattle.jn_lsp_text.specs.declared.counting.Counted.{Counted}
 use Rattle.jn_lsp_text.specs.declared.encoding.Encoding.{Encoding}
 use Rattle.jn_lsp_text.proofs.Steps.{counted_start}
-use Rattle.jn_lsp_actions.specs.declared.sweep.Place.{Place}
-use Rattle.jn_lsp_actions.specs.Sweep.{IsPlaceIn}
+use Rattle.jn_lsp_text.specs.declared.sweep.Place.{Place}
+use Rattle.jn_lsp_text.specs.Sweep.{IsPlaceIn}
 
 pub place_start : (encoding : Encoding) (text : List ℕ) (start : Counted) → start ≡ record { previous = 0; lines = 0; units = 0 } → IsPlaceIn encoding text (record { at = 0; counted = start })
 place_start encoding text start e = record { within = omega arith; is = e ∙ sym (counted_start encoding text); lines = omega (arith, ap (λ (c : Counted). c.lines) e); units = omega (arith, ap (λ (c : Counted). c.units) e) }

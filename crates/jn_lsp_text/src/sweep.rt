@@ -1,10 +1,11 @@
 //! Positions of a text's bytes, each counted on from the one before.
 ghost use Rattle.std.specs.Prelude.{◌≡◌, ◌≤◌, ◌<◌, ◌^◌, length};
 ghost use Rattle.jn_lsp_text.specs.Positions.{position_at};
-ghost use Rattle.jn_lsp_actions.specs.Sweep.{IsPlaceIn};
+ghost use Rattle.jn_lsp_text.specs.Sweep.{IsPlaceIn};
 
-use jn_lsp_text::counting::Counted;
-use jn_lsp_text::{Encoding, Position};
+use crate::counting::Counted;
+use crate::encoding::Encoding;
+use crate::position::Position;
 
 /// A byte of a text, or its end, and what stands before it.
 #[derive(Clone, Copy, Debug, PartialEq, Eq)]
@@ -14,7 +15,7 @@ pub struct Place {
 }
 
 /// The text's begin.
-#[tactic(auto, using(crate::proofs::Counting::place_start))]
+#[tactic(auto, using(crate::proofs::Sweeping::place_start))]
 pub fn start_of(encoding: Encoding, text: &[u8]) -> Place
     ensures place { IsPlaceIn encoding text.now result }
     ensures at { result.at ≡ 0 }
@@ -59,7 +60,7 @@ fn place_from(encoding: Encoding, text: &[u8], place: Place, to: usize) -> Place
 }
 
 /// The byte at `at`, or the text's end where the text is shorter.
-#[tactic(auto, using(crate::proofs::Counting::position_there))]
+#[tactic(auto, using(crate::proofs::Sweeping::position_there))]
 pub fn place_of(encoding: Encoding, text: &[u8], place: Place, at: usize) -> (Place, Position)
     requires small { length text.now < 2 ^ 30 }
     requires place { IsPlaceIn encoding text.now place }
