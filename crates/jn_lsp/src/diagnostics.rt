@@ -5,6 +5,7 @@ ghost use Rattle.jn_recheck.specs.Files.{AllFit};
 
 use jn_base::{OutOfMemory, Row, Seq, Text};
 use jn_front::SourceFile;
+use jn_lsp_solved::Marked;
 use jn_lsp_solved::related::{diagnostic_of, home};
 use jn_lsp_text::{Diagnostic, Encoding};
 use jn_note_words::{Note, Notes};
@@ -30,19 +31,18 @@ fn shown_at(notes: &[Notes], at: usize) -> &[Note]
 /// Puts a row's diagnostic after the others, where the row stands at the file of this number.
 fn add_row(
     alloc: Global,
-    encoding: Encoding,
-    files: &[SourceFile],
+    marked: &Marked,
     row: &Row,
     notes: &[Note],
     file: usize,
     diagnostics: &mut Seq<Diagnostic>,
 ) -> Result<(), AllocError>
-    requires fit { AllFit files.now }
     ensures { OnOk result (diagnostics.new
-        ≡ diagnostics.old ++ spec.diagnostics_of_row encoding files.now row.now notes.now file) }
+        ≡ diagnostics.old
+        ++ spec.diagnostics_of_row marked.now.encoding marked.now.files row.now notes.now file) }
 {
-    if home(files, &row.span) == file {
-        diagnostics.push(diagnostic_of(alloc, encoding, files, row, notes)?)?;
+    if home(marked.files(), &row.span) == file {
+        diagnostics.push(diagnostic_of(alloc, marked, row, notes)?)?;
     }
     Ok(())
 }
@@ -50,22 +50,19 @@ fn add_row(
 /// The diagnostics of the rows that stand at the file of this number.
 pub(crate) fn diagnostics_at(
     alloc: Global,
-    encoding: Encoding,
-    files: &[SourceFile],
+    marked: &Marked,
     rows: &[Row],
     notes: &[Notes],
     file: usize,
 ) -> Result<Seq<Diagnostic>, AllocError>
-    requires fit { AllFit files.now }
     ensures { IfOk result (λ diagnostics. diagnostics
-        ≡ spec.diagnostics_at encoding files.now rows.now notes.now file) }
+        ≡ spec.diagnostics_at marked.now.encoding marked.now.files rows.now notes.now file) }
 {
     let mut diagnostics = Seq::new(alloc);
     for at in 0..rows.len() {
         add_row(
             alloc,
-            encoding,
-            files,
+            marked,
             &rows[at],
             shown_at(notes, at),
             file,
@@ -96,6 +93,26 @@ pub(crate) fn push(told: &mut Vec<Told>, one: Told) -> Result<(), AllocError>
     Ok(())
 }
 
+/// What is told of each marked file: of these rows those that stand there.
+fn told_of_marked(
+    alloc: Global,
+    marked: &Marked,
+    rows: &[Row],
+    notes: &[Notes],
+) -> Result<Vec<Told>, OutOfMemory>
+    ensures { IfOk result (λ told. told.items
+        ≡ spec.told_from (spec.diagnostics_at marked.now.encoding marked.now.files rows.now notes.now) 0
+        marked.now.files) }
+{
+    let files = marked.files();
+    let mut told = Vec::new(alloc);
+    for at in 0..files.len() {
+        let diagnostics = diagnostics_at(alloc, marked, rows, notes, at)?;
+        push(&mut told, told_of(alloc, &files[at], diagnostics)?)?;
+    }
+    Ok(told)
+}
+
 /// What is told of each file: of the report's rows those that stand there.
 pub(crate) fn told_of_all(
     alloc: Global,
@@ -108,10 +125,7 @@ pub(crate) fn told_of_all(
     ensures { IfOk result (λ told. told.items
         ≡ spec.told_from (spec.diagnostics_at encoding files.now rows.now notes.now) 0 files.now) }
 {
-    let mut told = Vec::new(alloc);
-    for at in 0..files.len() {
-        let diagnostics = diagnostics_at(alloc, encoding, files, rows, notes, at)?;
-        push(&mut told, told_of(alloc, &files[at], diagnostics)?)?;
-    }
+    let marked = Marked::new(alloc, encoding, files, rows.len() > 0)?;
+    let told = told_of_marked(alloc, &marked, rows, notes)?;
     Ok(told)
 }

@@ -13,6 +13,7 @@ use crate::publishing::told_of as told_before;
 use itoa::{Buffer, Integer};
 use jn_base::{Code, OutOfMemory, Place, Row, Seq, Span, Text, place_of as place_of_span};
 use jn_front::SourceFile;
+use jn_lsp_solved::Marked;
 use jn_lsp_solved::related::{home, name_of, range_in};
 use jn_lsp_text::{Diagnostic, Encoding, Related, Said, copy_diagnostics};
 use jn_note_words::Notes;
@@ -139,19 +140,14 @@ fn why(alloc: Global, files: &[SourceFile], row: &Row) -> Result<Text, AllocErro
 }
 
 /// The place of a row, with what is wrong there.
-fn there(
-    alloc: Global,
-    encoding: Encoding,
-    files: &[SourceFile],
-    row: &Row,
-) -> Result<Seq<Related>, AllocError>
-    requires fit { AllFit files.now }
-    ensures { IfOk result (λ related. related ≡ spec.there encoding files.now row.now ∷ []) }
+fn there(alloc: Global, marked: &Marked, row: &Row) -> Result<Seq<Related>, AllocError>
+    ensures { IfOk result (λ related. related
+        ≡ spec.there marked.now.encoding marked.now.files row.now ∷ []) }
 {
     let mut related = Seq::new(alloc);
     related.push(Related {
-        name: Text::of_str(alloc, name_of(files, &row.span))?,
-        range: range_in(encoding, files, &row.span),
+        name: Text::of_str(alloc, name_of(marked.files(), &row.span))?,
+        range: range_in(marked, &row.span),
         words: Text::of_str(alloc, row.code.message())?,
     })?;
     Ok(related)
@@ -160,19 +156,18 @@ fn there(
 /// That a file isn't checked, since the report has this row.
 fn unchecked(
     alloc: Global,
-    encoding: Encoding,
-    files: &[SourceFile],
+    marked: &Marked,
     row: &Row,
     file: &SourceFile,
 ) -> Result<Diagnostic, AllocError>
-    requires fit { AllFit files.now }
     requires small { length file.now.bytes < 2 ^ 30 }
-    ensures { IfOk result (λ diagnostic. diagnostic ≡ spec.unchecked encoding files.now row.now file.now) }
+    ensures { IfOk result (λ diagnostic. diagnostic
+        ≡ spec.unchecked marked.now.encoding marked.now.files row.now file.now) }
 {
     Ok(Diagnostic {
-        range: front(encoding, file.bytes.as_slice()),
-        said: Said::Unchecked(why(alloc, files, row)?),
-        related: there(alloc, encoding, files, row)?,
+        range: front(marked.encoding(), file.bytes.as_slice()),
+        said: Said::Unchecked(why(alloc, marked.files(), row)?),
+        related: there(alloc, marked, row)?,
     })
 }
 
@@ -181,39 +176,37 @@ fn unchecked(
 /// Puts after what was told that a file isn't checked, since these are the report's rows.
 fn add_unchecked(
     alloc: Global,
-    encoding: Encoding,
-    files: &[SourceFile],
+    marked: &Marked,
     rows: &[Row],
     file: &SourceFile,
     diagnostics: &mut Seq<Diagnostic>,
 ) -> Result<(), AllocError>
-    requires fit { AllFit files.now }
     requires small { length file.now.bytes < 2 ^ 30 }
     ensures { OnOk result (diagnostics.new
-        ≡ diagnostics.old ++ spec.unchecked_by encoding files.now rows.now file.now) }
+        ≡ diagnostics.old
+        ++ spec.unchecked_by marked.now.encoding marked.now.files rows.now file.now) }
 {
     match rows {
         [] => Ok(()),
-        [row, ..] => diagnostics.push(unchecked(alloc, encoding, files, row, file)?),
+        [row, ..] => diagnostics.push(unchecked(alloc, marked, row, file)?),
     }
 }
 
 /// What was told of a file whose text is as it was, and that it isn't checked.
 fn kept(
     alloc: Global,
-    encoding: Encoding,
+    marked: &Marked,
     last: &LastReport,
-    files: &[SourceFile],
     rows: &[Row],
     file: &SourceFile,
 ) -> Result<Seq<Diagnostic>, AllocError>
-    requires fit { AllFit files.now }
     requires small { length file.now.bytes < 2 ^ 30 }
     ensures { IfOk result (λ diagnostics. diagnostics
-        ≡ spec.kept_of last.now file.now ++ spec.unchecked_by encoding files.now rows.now file.now) }
+        ≡ spec.kept_of last.now file.now
+        ++ spec.unchecked_by marked.now.encoding marked.now.files rows.now file.now) }
 {
     let mut diagnostics = copy_diagnostics(alloc, kept_of(last, file))?;
-    add_unchecked(alloc, encoding, files, rows, file, &mut diagnostics)?;
+    add_unchecked(alloc, marked, rows, file, &mut diagnostics)?;
     Ok(diagnostics)
 }
 
@@ -221,24 +214,44 @@ fn kept(
 #[tactic(auto, using(crate::proofs::Keeping::told_rows, crate::proofs::Keeping::told_kept))]
 fn unchecked_at(
     alloc: Global,
-    encoding: Encoding,
+    marked: &Marked,
     last: &LastReport,
-    files: &[SourceFile],
     rows: &[Row],
     notes: &[Notes],
     at: usize,
 ) -> Result<Seq<Diagnostic>, AllocError>
-    requires fit { AllFit files.now }
-    requires there { at < length files.now }
+    requires there { at < length marked.now.files }
     ensures { IfOk result (λ diagnostics. diagnostics
-        ≡ spec.unchecked_at encoding last.now files.now rows.now notes.now at) }
+        ≡ spec.unchecked_at marked.now.encoding last.now marked.now.files rows.now notes.now at) }
 {
-    let own = diagnostics_at(alloc, encoding, files, rows, notes, at)?;
+    let files = marked.files();
+    let own = diagnostics_at(alloc, marked, rows, notes, at)?;
     if own.len() == 0 {
-        kept(alloc, encoding, last, files, rows, &files[at])
+        kept(alloc, marked, last, rows, &files[at])
     } else {
         Ok(own)
     }
+}
+
+/// What is told of each marked file, where these rows, with these notes, end the report before the rules.
+fn unchecked_of_marked(
+    alloc: Global,
+    marked: &Marked,
+    last: &LastReport,
+    rows: &[Row],
+    notes: &[Notes],
+) -> Result<Vec<Told>, OutOfMemory>
+    ensures { IfOk result (λ told. told.items
+        ≡ told_from (spec.unchecked_at marked.now.encoding last.now marked.now.files rows.now notes.now) 0
+        marked.now.files) }
+{
+    let files = marked.files();
+    let mut told = Vec::new(alloc);
+    for at in 0..files.len() {
+        let diagnostics = unchecked_at(alloc, marked, last, rows, notes, at)?;
+        push(&mut told, told_of(alloc, &files[at], diagnostics)?)?;
+    }
+    Ok(told)
 }
 
 /// What is told of each file, where these rows, with these notes, end the report before the rules.
@@ -254,10 +267,7 @@ pub(crate) fn unchecked_of_all(
     ensures { IfOk result (λ told. told.items
         ≡ told_from (spec.unchecked_at encoding last.now files.now rows.now notes.now) 0 files.now) }
 {
-    let mut told = Vec::new(alloc);
-    for at in 0..files.len() {
-        let diagnostics = unchecked_at(alloc, encoding, last, files, rows, notes, at)?;
-        push(&mut told, told_of(alloc, &files[at], diagnostics)?)?;
-    }
+    let marked = Marked::new(alloc, encoding, files, rows.len() > 0)?;
+    let told = unchecked_of_marked(alloc, &marked, last, rows, notes)?;
     Ok(told)
 }

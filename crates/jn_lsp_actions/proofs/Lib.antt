@@ -1,6 +1,6 @@
 pub mod RowByRow
 pub mod Offering
-pub mod Fitting
+pub mod Finding
 pub mod Showing
 pub mod Annotated
 pub mod Wanting

@@ -19,6 +19,7 @@ use jn_chain::first_chain;
 use jn_contrib::Overrider;
 use jn_env::FlowTable;
 use jn_front::SourceFile;
+use jn_lsp_solved::Marked;
 use jn_lsp_text::{Encoding, Range};
 use jn_notes::explain::item_of;
 use jn_origins::LeastOrigins;
@@ -40,21 +41,40 @@ pub struct Asked<'a> {
 /// Puts the row after the others, where it is asked for.
 fn put_asked(
     asked_rows: &mut Vec<Row>,
-    encoding: Encoding,
-    files: &[SourceFile],
+    marked: &Marked,
     asked: &Asked,
     row: Row,
 ) -> Result<(), AllocError>
-    requires fit { AllFit files.now }
     ensures { OnOk result (asked_rows.new.items
         ≡ asked_rows.old.items
-        ++ filter (spec.is_asked_row encoding files.now asked.now.name.now asked.now.range) (row ∷ [])) }
+        ++ filter
+        (spec.is_asked_row marked.now.encoding marked.now.files asked.now.name.now asked.now.range)
+        (row ∷ [])) }
 {
-    if is_asked(encoding, files, asked.name, asked.range, row.span) {
+    if is_asked(marked, asked.name, asked.range, row.span) {
         put(asked_rows, row)
     } else {
         Ok(())
     }
+}
+
+/// The rows of marked files that are asked for.
+fn asked_rows_in(
+    alloc: Global,
+    marked: &Marked,
+    asked: &Asked,
+    rows: &[Row],
+) -> Result<Vec<Row>, AllocError>
+    ensures { IfOk result (λ asked_rows. asked_rows.items
+        ≡ filter
+        (spec.is_asked_row marked.now.encoding marked.now.files asked.now.name.now asked.now.range)
+        rows.now) }
+{
+    let mut asked_rows = Vec::new(alloc);
+    for row in rows {
+        put_asked(&mut asked_rows, marked, asked, *row)?;
+    }
+    Ok(asked_rows)
 }
 
 /// The rows that are asked for.
@@ -67,15 +87,13 @@ pub fn asked_rows(
     files: &[SourceFile],
     asked: &Asked,
     rows: &[Row],
-) -> Result<Vec<Row>, AllocError>
+) -> Result<Vec<Row>, OutOfMemory>
     requires fit { AllFit files.now }
     ensures { IfOk result (λ asked_rows. asked_rows.items
         ≡ filter (spec.is_asked_row encoding files.now asked.now.name.now asked.now.range) rows.now) }
 {
-    let mut asked_rows = Vec::new(alloc);
-    for row in rows {
-        put_asked(&mut asked_rows, encoding, files, asked, *row)?;
-    }
+    let marked = Marked::new(alloc, encoding, files, rows.len() > 0)?;
+    let asked_rows = asked_rows_in(alloc, &marked, asked, rows)?;
     Ok(asked_rows)
 }
 

@@ -1,7 +1,8 @@
 //! Hints with the places that tell why.
-ghost use Rattle.std.specs.Prelude.{◌≡◌, IfOk};
+ghost use Rattle.std.specs.Prelude.{◌≡◌, map, IfOk};
 ghost use Rattle.jn_inference_law.specs.Solution.{IsLeastSignature};
 ghost use Rattle.jn_note_words.specs.Owned.{AreOwners};
+ghost use Rattle.jn_lsp_solved.specs.Related.{related_of};
 ghost use Rattle.jn_notes.specs.Noted.{AreLeastTables};
 ghost use Rattle.jn_recheck.specs.Files.{AllFit};
 ghost use Rattle.jn_tables_law.specs.Inferable.{IsInferable};
@@ -12,10 +13,11 @@ use jn_base::lists::put;
 use jn_base::{OutOfMemory, Seq};
 use jn_front::SourceFile;
 use jn_index::indexed::IndexedProgram;
-use jn_lsp_solved::Solved;
 use jn_lsp_solved::reasons::reasons_of;
-use jn_lsp_solved::related::all_related;
+use jn_lsp_solved::related::all_related_in;
+use jn_lsp_solved::{Marked, Solved};
 use jn_lsp_text::{Encoding, Hint, Related};
+use jn_note_words::Note;
 use jn_note_words::owners::{Owner, find_owners};
 use jn_notes::tables::least_tables;
 use jn_origins::LeastOrigins;
@@ -37,15 +39,31 @@ fn with_related(alloc: Global, hint: &Hint, related: Seq<Related>) -> Result<Hin
     })
 }
 
+/// Notes at their files, of which these are marked.
+fn related_by(
+    alloc: Global,
+    solved: &Solved,
+    marked: &Marked,
+    notes: &[Note],
+) -> Result<Seq<Related>, AllocError>
+    requires marked { marked.now ≡ record { encoding = solved.now.encoding; files = solved.now.files.now } }
+    ensures { IfOk result (λ related. related
+        ≡ map (related_of solved.now.encoding solved.now.files.now) notes.now) }
+{
+    let _solved = solved;
+    all_related_in(alloc, marked, notes)
+}
+
 /// A hint with the notes of the first chains of its slot.
 fn explained(
     alloc: Global,
     solved: &Solved,
+    marked: &Marked,
     origins: &LeastOrigins,
     owners: &[Option<Owner>],
     one: &SlotHint,
 ) -> Result<Hint, OutOfMemory>
-    requires fit { AllFit solved.now.files.now }
+    requires marked { marked.now ≡ record { encoding = solved.now.encoding; files = solved.now.files.now } }
     requires inferable { IsInferable solved.now.program.now }
     requires least { IsLeastSignature solved.now.program.now solved.now.sig.now }
     requires solved { AreLeastTables solved.now.program.now solved.now.sig.now solved.now.tables.now }
@@ -58,13 +76,42 @@ fn explained(
         solved.now.sig.now solved.now.tables.now one.now hint) }
 {
     let notes = reasons_of(alloc, solved, origins, owners, one.slot)?;
-    let related = all_related(alloc, solved.encoding, solved.files, &notes)?;
+    let related = related_by(alloc, solved, marked, &notes)?;
     let hint = with_related(alloc, &one.hint, related)?;
     Ok(hint)
 }
 
 /// The same of each.
 fn all_explained(
+    alloc: Global,
+    solved: &Solved,
+    marked: &Marked,
+    origins: &LeastOrigins,
+    owners: &[Option<Owner>],
+    shown: &[SlotHint],
+) -> Result<Vec<Hint>, OutOfMemory>
+    requires marked { marked.now ≡ record { encoding = solved.now.encoding; files = solved.now.files.now } }
+    requires inferable { IsInferable solved.now.program.now }
+    requires least { IsLeastSignature solved.now.program.now solved.now.sig.now }
+    requires solved { AreLeastTables solved.now.program.now solved.now.sig.now solved.now.tables.now }
+    requires program { origins.now.program ≡ solved.now.program.now }
+    requires sig { origins.now.sig ≡ solved.now.sig.now }
+    requires tables { origins.now.tables ≡ solved.now.tables.now }
+    requires owners { AreOwners solved.now.program.now owners.now }
+    ensures { IfOk result (λ hints.
+        spec.AreExplained solved.now.encoding solved.now.files.now solved.now.names.now solved.now.program.now
+        solved.now.sig.now solved.now.tables.now shown.now hints.items) }
+{
+    let mut hints = Vec::new(alloc);
+    for one in shown {
+        let hint = explained(alloc, solved, marked, origins, owners, one)?;
+        put(&mut hints, hint)?;
+    }
+    Ok(hints)
+}
+
+/// The same of each, from the marks of the files.
+fn explained_from_marks(
     alloc: Global,
     solved: &Solved,
     origins: &LeastOrigins,
@@ -83,11 +130,8 @@ fn all_explained(
         spec.AreExplained solved.now.encoding solved.now.files.now solved.now.names.now solved.now.program.now
         solved.now.sig.now solved.now.tables.now shown.now hints.items) }
 {
-    let mut hints = Vec::new(alloc);
-    for one in shown {
-        let hint = explained(alloc, solved, origins, owners, one)?;
-        put(&mut hints, hint)?;
-    }
+    let marked = Marked::new(alloc, solved.encoding, solved.files, shown.len() > 0)?;
+    let hints = all_explained(alloc, solved, &marked, origins, owners, shown)?;
     Ok(hints)
 }
 
@@ -110,7 +154,7 @@ fn explained_by(
     least_tables_are_sized();
     let owners = find_owners(alloc, solved.program)?;
     let origins = LeastOrigins::new(alloc, indexed, solved.sig, solved.tables)?;
-    let hints = all_explained(alloc, solved, &origins, &owners, shown)?;
+    let hints = explained_from_marks(alloc, solved, &origins, &owners, shown)?;
     Ok(Seq::of_vec(hints))
 }
 

@@ -5,6 +5,7 @@ ghost use Rattle.jn_lsp_actions.specs.Mended as spec;
 
 use jn_base::{OutOfMemory, Row, Seq};
 use jn_front::SourceFile;
+use jn_lsp_solved::Marked;
 use jn_lsp_solved::related::diagnostic_of;
 use jn_lsp_text::{Diagnostic, Encoding};
 use jn_note_words::Notes;
@@ -17,11 +18,37 @@ pub struct Mending<'a> {
     pub diagnostics: &'a [Diagnostic],
 }
 
+/// The diagnostics of rows of marked files, each with its notes.
+#[tactic(auto, using(crate::proofs::Listing::next_diagnostic))]
+fn diagnostics_in(
+    alloc: Global,
+    marked: &Marked,
+    rows: &[Row],
+    notes: &[Notes],
+) -> Result<Seq<Diagnostic>, AllocError>
+    ensures { IfOk result (λ made. made
+        ≡ spec.diagnostics_of marked.now.encoding marked.now.files rows.now notes.now) }
+{
+    let mut made = Seq::new(alloc);
+    let mut rest = rows;
+    let mut left = notes;
+    while let [row, more @ ..] = rest {
+        match left {
+            [] => return Ok(made),
+            [first, others @ ..] => {
+                made.push(diagnostic_of(alloc, marked, row, first.shown.as_slice())?)?;
+                rest = more;
+                left = others;
+            }
+        }
+    }
+    Ok(made)
+}
+
 /// The diagnostics of rows, each with its notes.
 ///
 /// # Errors
 /// No memory was found.
-#[tactic(auto, using(crate::proofs::Listing::next_diagnostic))]
 pub fn diagnostics_of(
     alloc: Global,
     encoding: Encoding,
@@ -33,19 +60,8 @@ pub fn diagnostics_of(
     ensures { IfOk result
         (λ made. made ≡ spec.diagnostics_of encoding files.now rows.now notes.now) }
 {
-    let mut made = Seq::new(alloc);
-    let mut rest = rows;
-    let mut left = notes;
-    while let [row, more @ ..] = rest {
-        match left {
-            [] => return Ok(made),
-            [first, others @ ..] => {
-                made.push(diagnostic_of(alloc, encoding, files, row, first.shown.as_slice())?)?;
-                rest = more;
-                left = others;
-            }
-        }
-    }
+    let marked = Marked::new(alloc, encoding, files, rows.len() > 0)?;
+    let made = diagnostics_in(alloc, &marked, rows, notes)?;
     Ok(made)
 }
 

@@ -1,2 +1,3 @@
 pub mod Related
+pub mod Marking
 pub mod Reasons

@@ -3,9 +3,10 @@ ghost use Rattle.std.specs.Prelude.{◌≡◌, map, IfOk};
 ghost use Rattle.jn_lsp_solved.specs.Related as spec;
 ghost use Rattle.jn_recheck.specs.Files.{AllFit};
 
-use jn_base::{Row, Seq, Span, Text};
+use crate::marked::Marked;
+use jn_base::{OutOfMemory, Row, Seq, Span, Text};
 use jn_front::SourceFile;
-use jn_lsp_text::{Diagnostic, Encoding, Range, Related, Said, range_of};
+use jn_lsp_text::{Diagnostic, Encoding, Range, Related, Said};
 use jn_note_words::Note;
 use std::alloc::{AllocError, Global};
 
@@ -28,14 +29,10 @@ pub fn name_of<'a>(files: &'a [SourceFile], span: &Span) -> &'a str
 }
 
 /// The range of a span in the file where it stands.
-pub fn range_in(encoding: Encoding, files: &[SourceFile], span: &Span) -> Range
-    requires fit { AllFit files.now }
-    ensures { result ≡ spec.range_in encoding files.now span.now }
+pub fn range_in(marked: &Marked, span: &Span) -> Range
+    ensures { result ≡ spec.range_in marked.now.encoding marked.now.files span.now }
 {
-    match files.get(home(files, span)) {
-        None => range_of(encoding, &[], span.from, span.to),
-        Some(file) => range_of(encoding, file.bytes.as_slice(), span.from, span.to),
-    }
+    marked.range(home(marked.files(), span), span.from, span.to)
 }
 
 /// The text without this ending, where it has it.
@@ -56,18 +53,12 @@ fn without_lead(words: &[u8]) -> &[u8]
     without_ending(without_ending(words, b" at"), b":")
 }
 
-fn related_of(
-    alloc: Global,
-    encoding: Encoding,
-    files: &[SourceFile],
-    note: &Note,
-) -> Result<Related, AllocError>
-    requires fit { AllFit files.now }
-    ensures { IfOk result (λ related. related ≡ spec.related_of encoding files.now note.now) }
+fn related_of(alloc: Global, marked: &Marked, note: &Note) -> Result<Related, AllocError>
+    ensures { IfOk result (λ related. related ≡ spec.related_of marked.now.encoding marked.now.files note.now) }
 {
     Ok(Related {
-        name: Text::of_str(alloc, name_of(files, &note.span))?,
-        range: range_in(encoding, files, &note.span),
+        name: Text::of_str(alloc, name_of(marked.files(), &note.span))?,
+        range: range_in(marked, &note.span),
         words: Text::of_string(String::from_utf8_lossy(
             alloc,
             without_lead(note.words.as_slice()),
@@ -79,19 +70,36 @@ fn related_of(
 ///
 /// # Errors
 /// No memory was found.
+pub fn all_related_in(
+    alloc: Global,
+    marked: &Marked,
+    notes: &[Note],
+) -> Result<Seq<Related>, AllocError>
+    ensures { IfOk result (λ related. related
+        ≡ map (spec.related_of marked.now.encoding marked.now.files) notes.now) }
+{
+    let mut related = Seq::new(alloc);
+    for note in notes {
+        related.push(related_of(alloc, marked, note)?)?;
+    }
+    Ok(related)
+}
+
+/// The same where no other places are asked for.
+///
+/// # Errors
+/// No memory was found.
 pub fn all_related(
     alloc: Global,
     encoding: Encoding,
     files: &[SourceFile],
     notes: &[Note],
-) -> Result<Seq<Related>, AllocError>
+) -> Result<Seq<Related>, OutOfMemory>
     requires fit { AllFit files.now }
     ensures { IfOk result (λ related. related ≡ map (spec.related_of encoding files.now) notes.now) }
 {
-    let mut related = Seq::new(alloc);
-    for note in notes {
-        related.push(related_of(alloc, encoding, files, note)?)?;
-    }
+    let marked = Marked::new(alloc, encoding, files, false)?;
+    let related = all_related_in(alloc, &marked, notes)?;
     Ok(related)
 }
 
@@ -101,18 +109,16 @@ pub fn all_related(
 /// No memory was found.
 pub fn diagnostic_of(
     alloc: Global,
-    encoding: Encoding,
-    files: &[SourceFile],
+    marked: &Marked,
     row: &Row,
     notes: &[Note],
 ) -> Result<Diagnostic, AllocError>
-    requires fit { AllFit files.now }
     ensures { IfOk result (λ diagnostic. diagnostic
-        ≡ spec.diagnostic_of encoding files.now row.now notes.now) }
+        ≡ spec.diagnostic_of marked.now.encoding marked.now.files row.now notes.now) }
 {
     Ok(Diagnostic {
-        range: range_in(encoding, files, &row.span),
+        range: range_in(marked, &row.span),
         said: Said::Row(row.code),
-        related: all_related(alloc, encoding, files, notes)?,
+        related: all_related_in(alloc, marked, notes)?,
     })
 }

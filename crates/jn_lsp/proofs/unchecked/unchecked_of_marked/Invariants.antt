@@ -1,9 +1,9 @@
 use Rattle.std.proofs.Common.{◌≡◌, ◌++◌, drop}
 use Rattle.jn_lsp.specs.Reported.{unchecked_at}
 use Rattle.jn_lsp.specs.Telling.{told_from}
-use Rattle.jn_lsp.proofs.unchecked.unchecked_of_all.Given as goal
+use Rattle.jn_lsp.proofs.unchecked.unchecked_of_marked.Given as goal
 
 abbrev pub invariant-loop-at : goal.invariant-loop-at
 invariant-loop-at l =
-    let diagnostics = unchecked_at l.encoding l.last l.files l.rows l.notes in
+    let diagnostics = unchecked_at l.marked.encoding l.last l.marked.files l.rows l.notes in
     l.told.items ++ told_from diagnostics l.at (drop l.at l.files) ≡ told_from diagnostics 0 l.files
