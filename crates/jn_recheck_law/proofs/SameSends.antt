@@ -16,8 +16,9 @@ use Rattle.jn_env.specs.Keys.{is_on, own_keys}
 use Rattle.jn_env.specs.Order.{Table, env_in, qual_at}
 use Rattle.jn_transfer.specs.Contributions.{arg_sends, field_slot_of, is_inferred, kind_sends, receiver_sends, receiver_slot_of, result_slot_of, return_sends, sends, unset_sends}
 use Rattle.jn_contrib.specs.Sends.{body_sends, point_sends, sends_from}
-use Rattle.jn_recheck_law.specs.Alike.{AllAlike, SameDeclarations, SameKind, SameSlot, bare_kind}
+use Rattle.jn_recheck_law.specs.Alike.{AllAlike, SameDeclarations, SameKind, SameSlot, acting_kind, bare_kind}
 use Rattle.jn_recheck_law.specs.Reusable.{ActAlike}
+use Rattle.jn_places_law.specs.Bare.{bare_kind as placeless, bare_operands, bare_optional}
 use Rattle.jn_recheck_law.proofs.Seeing as see
 
 module _ (names more : List (List ℕ)) (P Q : Program) (d : SameDeclarations names more P Q) where
@@ -96,9 +97,36 @@ module _ (names more : List (List ℕ)) (P Q : Program) (d : SameDeclarations na
     kind_blind e (Const dst Null) = refl
     kind_blind e k = refl
 
-    point_same : (x y : Point) (o : Option Env) → bare_kind x.kind ≡ bare_kind y.kind → point_sends P b x o ≡ point_sends Q b y o
+    args_placed : (e : Env) (xs : List (Option SlotNo)) (args : List Operand) → arg_sends P e xs args ≡ arg_sends P e xs (bare_operands args)
+    args_placed e [] args = refl
+    args_placed e (x ∷ xs) [] = refl
+    args_placed e (x ∷ xs) (a ∷ args) =
+        let rest = args_placed e xs args in
+        (λ i. sends P x (qual_at e a.reg.0) ++ rest i)
+
+    receivers_placed : (e : Env) (slot : Option SlotNo) (r : Option Operand) → receiver_sends P e slot r ≡ receiver_sends P e slot (bare_optional r)
+    receivers_placed e slot None = refl
+    receivers_placed e slot (Some r) = refl
+
+    returns_placed : (e : Env) (slot : Option SlotNo) (v : Option Operand) → return_sends P e slot v ≡ return_sends P e slot (bare_optional v)
+    returns_placed e slot None = refl
+    returns_placed e slot (Some v) = refl
+
+    kinds_placed : (e : Env) (k : PointKind) → kind_sends P b e k ≡ kind_sends P b e (placeless k)
+    kinds_placed e (New dst m args) = args_placed e (slots_of (method_at P m.0)) args
+    kinds_placed e (CtorCall m args own) = args_placed e (slots_of (method_at P m.0)) args
+    kinds_placed e (Call dst m r direct args) =
+        let one = args_placed e (slots_of (method_at P m.0)) args in
+        let rest = receivers_placed e (receiver_slot_of (method_at P m.0)) r in
+        (λ i. one i ++ rest i)
+    kinds_placed e (Return v) =
+        let one = returns_placed e (result_slot_of (method_in P b)) v in
+        (λ i. one i ++ unset_sends P (own_keys P b) (own_keys P b) e.assigned)
+    kinds_placed e k = refl
+
+    point_same : (x y : Point) (o : Option Env) → acting_kind x.kind ≡ acting_kind y.kind → point_sends P b x o ≡ point_sends Q b y o
     point_same x y None k = refl
-    point_same x y (Some e) k = see.by_kind (kind_sends P b e) (kind_blind e) x.kind y.kind k ∙ kinds_same e y.kind
+    point_same x y (Some e) k = see.by_act (kind_sends P b e) (kind_blind e) (kinds_placed e) x.kind y.kind k ∙ kinds_same e y.kind
 
     from_same : (i : ℕ) (xs ys : List Point) (p : ℕ) (T : Table) → AllAlike SameKind i xs ys → sends_from P b xs p T ≡ sends_from Q b ys p T
     from_same i [] [] p T al = refl

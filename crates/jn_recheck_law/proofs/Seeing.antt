@@ -15,8 +15,9 @@ use Rattle.jn_points.specs.Lookup.{base_in, body_at, class_of, ctor_of, field_in
 use Rattle.jn_points.specs.Members.{below}
 use Rattle.jn_env.specs.Keys.{distinct, fact_keys, kind_keys, own_keys}
 use Rattle.jn_transfer.specs.Contributions.{field_slot_of, receiver_slot_of, result_slot_of}
-use Rattle.jn_recheck_law.specs.Alike.{ActsAlike, AllAlike, SameBody, SameDeclarations, SameField, SameKind, SameMethod, SamePoint, bare_kind}
+use Rattle.jn_recheck_law.specs.Alike.{ActsAlike, AllAlike, SameBody, SameDeclarations, SameField, SameKind, SameMethod, SamePoint, acting_kind, bare_kind}
 use Rattle.jn_recheck_law.specs.Reusable.{ActAlike, SameBodies}
+use Rattle.jn_places_law.specs.Bare.{bare_kind as placeless}
 
 -- what is seen of the i-th items of lists that are alike
 pub alike_seen : {A C : Type 0} (R : ℕ → A → A → Type 0) (look : Option A → C) → ((i : ℕ) (x y : A) → R i x y → look (Some x) ≡ look (Some y)) → (k : ℕ) (xs ys : List A) → AllAlike R k xs ys → (i : ℕ) → look (slice_get xs i) ≡ look (slice_get ys i)
@@ -36,12 +37,23 @@ alike_long R k (x ∷ xs) (y ∷ ys) h = ap suc (alike_long R (k + 1) xs ys h.1)
 pub by_kind : {C : Type 0} (look : PointKind → C) → ((k : PointKind) → look k ≡ look (bare_kind k)) → (x y : PointKind) → bare_kind x ≡ bare_kind y → look x ≡ look y
 by_kind look blind x y e = blind x ∙ ap look e ∙ sym (blind y)
 
+-- what is blind to the places of operands, too
+pub by_act : {C : Type 0} (look : PointKind → C) → ((k : PointKind) → look k ≡ look (bare_kind k)) → ((k : PointKind) → look k ≡ look (placeless k)) → (x y : PointKind) → acting_kind x ≡ acting_kind y → look x ≡ look y
+by_act look strings places x y e = places x ∙ by_kind look strings (placeless x) (placeless y) e ∙ sym (places y)
+
+acting_blind : (k : PointKind) → acting_kind k ≡ acting_kind (bare_kind k)
+acting_blind (Const dst (Int n)) = refl
+acting_blind (Const dst (Truth n)) = refl
+acting_blind (Const dst (Str n)) = refl
+acting_blind (Const dst Null) = refl
+acting_blind k = refl
+
 -- bodies that do the same at the same places act alike
 same_kinds : (names more : List (List ℕ)) (i : ℕ) (xs ys : List Point) → AllAlike (SamePoint names more) i xs ys → AllAlike SameKind i xs ys
 same_kinds names more i [] [] h = tt
 same_kinds names more i [] (y ∷ ys) h = absurd h
 same_kinds names more i (x ∷ xs) [] h = absurd h
-same_kinds names more i (x ∷ xs) (y ∷ ys) h = (record { kind = h.0.kind }, same_kinds names more (i + 1) xs ys h.1)
+same_kinds names more i (x ∷ xs) (y ∷ ys) h = (record { kind = by_kind acting_kind acting_blind x.kind y.kind h.0.kind }, same_kinds names more (i + 1) xs ys h.1)
 
 same_acts : (names more : List (List ℕ)) (x y : Body) → SameBody names more x y → ActsAlike x y
 same_acts names more x y h = record { method = h.method; regs = h.regs; locals = h.locals; points = same_kinds names more 0 x.points y.points h.points }
@@ -62,7 +74,7 @@ module _ (names more : List (List ℕ)) where
   keys_alike k [] (y ∷ ys) h = absurd h
   keys_alike k (x ∷ xs) [] h = absurd h
   keys_alike k (x ∷ xs) (y ∷ ys) h =
-      let a = by_kind kind_keys blind x.kind y.kind h.0.kind in
+      let a = by_act kind_keys blind placed x.kind y.kind h.0.kind in
       let c = keys_alike (k + 1) xs ys h.1 in
       (λ i. a i ++ c i)
     where
@@ -72,6 +84,10 @@ module _ (names more : List (List ℕ)) where
       blind (Const dst (Str n)) = refl
       blind (Const dst Null) = refl
       blind k = refl
+
+      placed : (k : PointKind) → kind_keys k ≡ kind_keys (placeless k)
+      placed (Const dst value) = refl
+      placed k = refl
 
   module _ (P Q : Program) (d : SameDeclarations names more P Q) where
     pub field_seen : {C : Type 0} (look : Option Field → C) → ((i : ℕ) (x y : Field) → SameField names more i x y → look (Some x) ≡ look (Some y)) → (f : ℕ) → look (field_info P f) ≡ look (field_info Q f)

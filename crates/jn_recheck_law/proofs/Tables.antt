@@ -18,8 +18,10 @@ use Rattle.jn_env.specs.Keys.{Key, also, fact_keys, has_key_field, has_reg, is_k
 use Rattle.jn_env.specs.Order.{Table, env_in, qual_at}
 use Rattle.jn_transfer.specs.Least.{IsLeastTable, all_edges, edges_from, flow_all, round, rounds, start_table}
 use Rattle.jn_transfer.specs.Transfer.{ctor_called, drop_facts, elem_qual, elem_read, given_quals, learn, less_null, literal_qual, new_qual, pad_quals, put, put_to, read_qual, ref_quals, refine, side, transfer, written}
-use Rattle.jn_recheck_law.specs.Alike.{AllAlike, SameDeclarations, SameKind, bare_kind}
+use Rattle.jn_recheck_law.specs.Alike.{AllAlike, SameDeclarations, SameKind, acting_kind, bare_kind}
 use Rattle.jn_recheck_law.specs.Reusable.{ActAlike}
+use Rattle.jn_places_law.specs.Bare.{bare_kind as placeless}
+use Rattle.jn_places_law.proofs.Flow.{ref_quals_is}
 use Rattle.jn_recheck_law.proofs.Seeing as see
 
 module _ (P Q : Program) (s t : List Qualifier) where
@@ -120,9 +122,13 @@ module _ (names more : List (List ℕ)) (P Q : Program) (s t : List Qualifier) (
     edges_blind p e (Const dst Null) = refl
     edges_blind p e k = refl
 
-    from_same : (x y : Point) (p : ℕ) (o : Option Env) → bare_kind x.kind ≡ bare_kind y.kind → ReadsSame P Q s t y.kind → edges_from P s b x p o ≡ edges_from Q t b y p o
+    edges_placed : (p : ℕ) (e : Env) (k : PointKind) → transfer P s b k p e ≡ transfer P s b (placeless k) p e
+    edges_placed p e (New dst m args) = ap (λ (qs : List Qualifier). (p + 1, put P b (drop_facts P b e) dst.0 (new_qual qs)) ∷ []) (sym (ref_quals_is e (slots_of (method_at P m.0)) args))
+    edges_placed p e k = refl
+
+    from_same : (x y : Point) (p : ℕ) (o : Option Env) → acting_kind x.kind ≡ acting_kind y.kind → ReadsSame P Q s t y.kind → edges_from P s b x p o ≡ edges_from Q t b y p o
     from_same x y p None k h = refl
-    from_same x y p (Some e) k h = see.by_kind (λ kind. transfer P s b kind p e) (edges_blind p e) x.kind y.kind k ∙ edge_same y.kind p e h
+    from_same x y p (Some e) k h = see.by_act (λ kind. transfer P s b kind p e) (edges_blind p e) (edges_placed p e) x.kind y.kind k ∙ edge_same y.kind p e h
 
     edges_same : (i : ℕ) (xs ys : List Point) (p : ℕ) (T : Table) → AllAlike SameKind i xs ys → AllRead P Q s t ys → all_edges P s b xs p T ≡ all_edges Q t b ys p T
     edges_same i [] [] p T a h = refl

@@ -11,6 +11,7 @@ use Rattle.jn_points.specs.declared.program.Method.{Method}
 use Rattle.jn_points.specs.declared.program.Body.{Body}
 use Rattle.jn_points.specs.declared.program.SlotInfo.{SlotInfo}
 use Rattle.jn_points.specs.declared.program.Program.{Program}
+use Rattle.jn_places_law.specs.Bare.{bare_kind as placeless}
 
 -- two lists have one length, and at each place what is alike there
 abbrev pub AllAlike : {A : Type 0} → (ℕ → A → A → Type 0) → ℕ → List A → List A → Type 0
@@ -33,9 +34,13 @@ abbrev pub text_at : List (List ℕ) → Option NameNo → Option (List ℕ)
 text_at names None = None
 text_at names (Some n) = slice_get names n.0
 
--- a point that does the same, wherever it stands and whatever the text of its string
+-- a point but for the places of its operands and the number of its string
+abbrev pub acting_kind : PointKind → PointKind
+acting_kind kind = bare_kind (placeless kind)
+
+-- a point that does the same, wherever it and its operands stand and whatever the text of its string
 pub record SameKind (i : ℕ) (x y : Point) : Type 0 where
-  pub kind : bare_kind x.kind ≡ bare_kind y.kind
+  pub kind : acting_kind x.kind ≡ acting_kind y.kind
 
 -- bodies of one method with equal registers, parameters and locals, and points that do the same; neither places nor strings are compared
 pub record ActsAlike (x y : Body) : Type 0 where
