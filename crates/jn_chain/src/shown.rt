@@ -88,12 +88,7 @@ pub fn nothing_told(alloc: Global) -> Told
 }
 
 /// The step is told, before what is told behind it.
-fn told_before(
-    alloc: Global,
-    most: usize,
-    step: Step,
-    behind: &Told,
-) -> Result<Told, OutOfMemory>
+fn told_before(alloc: Global, most: usize, step: Step, behind: &Told) -> Result<Told, OutOfMemory>
     ensures count { IfOk result (λ told. told.count ≡ behind.now.count + 1) }
     ensures shown { IfOk result (λ told. told.shown ≡ shown most (step ∷ behind.now.shown)) }
 {
@@ -122,12 +117,7 @@ fn told_behind(alloc: Global, behind: &Told) -> Result<Told, AllocError>
 ///
 /// # Errors
 /// No memory was found.
-pub fn told_with(
-    alloc: Global,
-    most: usize,
-    step: Step,
-    behind: &Told,
-) -> Result<Told, OutOfMemory>
+pub fn told_with(alloc: Global, most: usize, step: Step, behind: &Told) -> Result<Told, OutOfMemory>
     ensures { IfOk result (λ told. (steps : List Step)
         → behind.now ≡ told_of most steps → told ≡ told_of most (step ∷ steps)) }
 {

@@ -53,11 +53,7 @@ impl Turned {
 }
 
 /// The turns in a course.
-fn search(
-    alloc: Global,
-    course: &[Passed],
-    makers: &[bool],
-) -> Result<Turned, OutOfMemory>
+fn search(alloc: Global, course: &[Passed], makers: &[bool]) -> Result<Turned, OutOfMemory>
     requires some { 0 < length course.now }
     requires few { length course.now < 2 ^ 32 }
     ensures { IfOk result (λ turned. (read : ℕ)
