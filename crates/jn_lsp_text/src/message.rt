@@ -23,8 +23,9 @@ pub enum Message {
     /// `initialize`: the workspace's folders, the members that are inferred by the settings (`initializationOptions.infer`), the names of
     /// files by the settings (`initializationOptions.files`), each whole or relative to the first folder, the names of folders that are left
     /// out (`initializationOptions.exclude`), how the client shows what stands at a position
-    /// (`capabilities.textDocument.hover.contentFormat`), and the unit of positions from then on: `utf-8` where the client offers that
-    /// (`capabilities.general.positionEncodings`), else `utf-16`.
+    /// (`capabilities.textDocument.hover.contentFormat`), the unit of positions from then on: `utf-8` where the client offers that
+    /// (`capabilities.general.positionEncodings`), else `utf-16`, and whether the client shows that work goes on where the server announces it
+    /// (`capabilities.window.workDoneProgress`).
     Initialize {
         id: Id,
         folders: Folders,
@@ -33,6 +34,7 @@ pub enum Message {
         exclude: Seq<Text>,
         markup: Markup,
         encoding: Encoding,
+        progress: bool,
     },
     /// `initialized`.
     Initialized,

@@ -130,4 +130,16 @@ pub enum Reply {
         markup: Markup,
         hover: Option<Hover>,
     },
+    /// `window/workDoneProgress/create`: a request to take what is said of the work of this number. The number is the request's id, too.
+    Announce {
+        number: u32,
+    },
+    /// `$/progress` where the work of this number begins (WorkDoneProgressBegin): files are checked.
+    Begin {
+        number: u32,
+    },
+    /// `$/progress` where the work of this number ended (WorkDoneProgressEnd).
+    End {
+        number: u32,
+    },
 }
