@@ -28,7 +28,7 @@ use Rattle.jn_lsp_text.specs.declared.reply.Said.TheVariants.{Row, Unchecked}
 use Rattle.jn_lsp_text.specs.declared.reply.Reply.{Reply}
 use Rattle.jn_lsp_text.specs.declared.reply.Reply.TheVariants as reply
 use Rattle.jn_lsp_messages.specs.Incoming.{IsJson}
-use Rattle.jn_lsp_messages.specs.Outgoing.{position_data, range_data, location_data, related_data, told, description_data, described, row_data, unchecked_data, said_data, diagnostic_data, insertion_data, edit_data, action_data, tooltip_words, tooltip, hint_with, hint_data, kind_name, hover_words, contents_data, hover_data, hover_or_null, watchers_data, registration_data, registrations_data, request_data, sync_data, kinds_data, workspace_data, capabilities_data, server_data, initialize_data, failure_code, failure_words, error_data, id_data, id_or_null, answer_data, refusal_data, notice_data, versioned, published_data, shown_data, list_data, data_of}
+use Rattle.jn_lsp_messages.specs.Outgoing.{position_data, range_data, location_data, related_data, told, description_data, described, row_data, unchecked_data, said_data, diagnostic_data, insertion_data, edit_data, action_data, tooltip_words, tooltip, hint_with, hint_data, kind_name, hover_words, contents_data, hover_data, hover_or_null, watchers_data, registration_data, registrations_data, request_data, token_data, begin_data, end_data, progress_data, sync_data, kinds_data, workspace_data, capabilities_data, server_data, initialize_data, failure_code, failure_words, error_data, id_data, id_or_null, answer_data, refusal_data, notice_data, versioned, published_data, shown_data, list_data, data_of}
 use Rattle.jn_lsp_messages.specs.Uris.{uri_of}
 
 -- a value nests at most so deep, and has no float
@@ -216,6 +216,29 @@ watch_is = record { shallow = closed; whole = refl }
     closed : 7 ≤ 9
     closed = omega arith
 
+announce_is : (n : ℕ) → Is 9 (request_data (id.Number (pos n)) (codes "window/workDoneProgress/create") (token_data n))
+unfolding request_data token_data
+announce_is n =
+    holding 8 9 _ refl (next 8 _ _ _ (integer 8 (pos n))
+    (next 8 _ _ _ (text 8 (codes "2.0"))
+    (next 8 _ _ _ (text 8 (codes "window/workDoneProgress/create"))
+    (last 8 _ _ (holding 7 8 _ refl (last 7 _ _ (natural 7 n)))))))
+
+progress_is : (n : ℕ) (said : Data) → Is 7 said → Is 8 (progress_data n said)
+unfolding progress_data
+progress_is n said is = holding 7 8 _ refl (next 7 _ _ _ (natural 7 n) (last 7 _ _ is))
+
+begin_is : Is 7 begin_data
+unfolding begin_data
+begin_is =
+    holding 6 7 _ refl (next 6 _ _ _ (truth 6 false)
+    (next 6 _ _ _ (text 6 (codes "begin"))
+    (last 6 _ _ (text 6 (codes "nullcheck: checking")))))
+
+end_is : Is 7 end_data
+unfolding end_data
+end_is = holding 6 7 _ refl (last 6 _ _ (text 6 (codes "end")))
+
 initialize_is : (encoding : Encoding) → Is 8 (initialize_data encoding)
 unfolding initialize_data capabilities_data kinds_data sync_data workspace_data server_data
 initialize_is Utf16 = record { shallow = closed; whole = refl }
@@ -265,6 +288,9 @@ reply_is address reply.Watch = at_most_ten _ watch_is
 reply_is address (reply.Actions i actions) = offer_is i _ (listed (action_data address) 8 9 refl (action_is address) actions)
 reply_is address (reply.Hints i hints) = at_most_ten _ (answer_is i _ (deeper 3 8 _ (omega arith) (listed hint_data 2 3 refl hint_is hints)))
 reply_is address (reply.Hovered i markup hover) = at_most_ten _ (answer_is i _ (hover_or_null_is markup hover))
+reply_is address (reply.Announce n) = at_most_ten _ (announce_is n)
+reply_is address (reply.Begin n) = at_most_ten _ (notice_is _ _ (progress_is n begin_data begin_is))
+reply_is address (reply.End n) = at_most_ten _ (notice_is _ _ (progress_is n end_data end_is))
 
 -- what is written of a value that is a reply's reads as it, and is its compact text
 pub reads_as : (address : Option (List ℕ)) (r : Reply) (d : Data) (body : List ℕ) → d ≡ data_of address r → (depth d ≤ max_depth → read body ≡ Some d) → IsUtf8 body → IsJson body (data_of address r)

@@ -193,6 +193,10 @@ encoding_by (Some offered) = if has_word (codes "utf-8") offered then Utf8 else 
 unfoldable pub encoding_in : Data → Encoding
 encoding_in d = encoding_by (option_and_then as_array (pointer (codes "/params/capabilities/general/positionEncodings") d))
 
+-- the client shows that work goes on, where the server announces it
+unfoldable pub progress_in : Data → Bool
+progress_in d = is_true (option_and_then as_bool (pointer (codes "/params/capabilities/window/workDoneProgress") d))
+
 -- ---- messages
 
 -- the message, where the parameters have their form
@@ -220,7 +224,7 @@ changed_folders d = option_and_then (λ added. option_map (message.ChangedFolder
 
 abbrev pub asked_start : Id → Data → Option Message
 asked_start id d =
-    option_and_then (λ folders. option_and_then (λ files. option_map (λ exclude. message.Initialize id folders (infer_in d) files exclude (markup_in d) (encoding_in d))
+    option_and_then (λ folders. option_and_then (λ files. option_map (λ exclude. message.Initialize id folders (infer_in d) files exclude (markup_in d) (encoding_in d) (progress_in d))
     (exclude_in d)) (files_in d)) (folders_in d)
 
 abbrev pub asked_actions : Id → Data → Option Message

@@ -1,5 +1,5 @@
 -- Replies as JSON (JSON-RPC 2.0; Language Server Protocol 3.17). The members of an object stand in the order of their names' bytes.
-use Rattle.std.specs.Prelude.{ℕ, ℤ, pos, neg_ℤ, ◌+◌, ◌++◌, true, List, [], ◌∷◌, Option, Some, None, codes, decimal, flat_map, map}
+use Rattle.std.specs.Prelude.{ℕ, ℤ, pos, neg_ℤ, ◌+◌, ◌++◌, true, false, List, [], ◌∷◌, Option, Some, None, codes, decimal, flat_map, map}
 use Rattle.serde_json.specs.Data.{Data, null, boolean, number, string, array, object, unsigned, Members, no_members, member, no_items, item}
 use Rattle.serde_json.specs.Find.{of_integer}
 use Rattle.serde_json.specs.View.{items_of}
@@ -188,6 +188,26 @@ registration_data =
 unfoldable pub registrations_data : Data
 registrations_data = object (one (codes "registrations") (array (item registration_data no_items)))
 
+-- ---- work that goes on (WorkDoneProgressCreateParams, ProgressParams)
+
+-- its token is its number
+unfoldable pub token_data : ℕ → Data
+token_data n = object (one (codes "token") (number (unsigned n)))
+
+-- files are checked, which can't be stopped (WorkDoneProgressBegin)
+unfoldable pub begin_data : Data
+begin_data =
+    object (member (codes "cancellable") (boolean false)
+    (member (codes "kind") (string (codes "begin"))
+    (one (codes "title") (string (codes "nullcheck: checking")))))
+
+-- they were (WorkDoneProgressEnd)
+unfoldable pub end_data : Data
+end_data = object (one (codes "kind") (string (codes "end")))
+
+unfoldable pub progress_data : ℕ → Data → Data
+progress_data n said = object (member (codes "token") (number (unsigned n)) (one (codes "value") said))
+
 -- ---- what the server can do
 
 -- changes come as ranges (TextDocumentSyncKind.Incremental is 2)
@@ -296,3 +316,6 @@ data_of address reply.Watch = request_data (id.Text (codes "watch")) (codes "cli
 data_of address (reply.Actions i actions) = answer_data i (list_data (action_data address) actions)
 data_of address (reply.Hints i hints) = answer_data i (list_data hint_data hints)
 data_of address (reply.Hovered i markup hover) = answer_data i (hover_or_null markup hover)
+data_of address (reply.Announce n) = request_data (id.Number (pos n)) (codes "window/workDoneProgress/create") (token_data n)
+data_of address (reply.Begin n) = notice_data (codes "$/progress") (progress_data n begin_data)
+data_of address (reply.End n) = notice_data (codes "$/progress") (progress_data n end_data)

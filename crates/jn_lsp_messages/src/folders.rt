@@ -148,7 +148,7 @@ fn watched_in(body: &Value) -> bool
     }
 }
 
-fn is_true(value: &Value) -> bool
+pub(crate) fn is_true(value: &Value) -> bool
     ensures { result ≡ spec.is_true (as_bool (view value.now)) }
 {
     match value.as_bool() {

@@ -13,6 +13,7 @@ pub mod law;
 pub mod method;
 mod params;
 mod places;
+mod progress;
 pub mod reading;
 pub mod uri;
 mod watching;

@@ -4,6 +4,7 @@ ghost use Rattle.serde_json.specs.Find.{as_array, as_str};
 ghost use Rattle.serde_json.specs.View.{items_view, view};
 ghost use Rattle.jn_lsp_messages.specs.Incoming as spec;
 
+use crate::folders::is_true;
 use crate::uri::name_of;
 use jn_base::{OutOfMemory, Seq, Text};
 use jn_lsp_text::{Change, Choice, Encoding, Markup, Position, Range, choice_named};
@@ -301,6 +302,17 @@ pub(crate) fn encoding_in(body: &Value) -> Encoding
     match body.pointer("/params/capabilities/general/positionEncodings") {
         None => Encoding::Utf16,
         Some(offered) => encoding_of(offered),
+    }
+}
+
+/// Whether the client shows that work goes on, where the server announces it.
+#[tactic(auto, unfolding(crate::specs::Incoming::progress_in))]
+pub(crate) fn progress_in(body: &Value) -> bool
+    ensures { result ≡ spec.progress_in (view body.now) }
+{
+    match body.pointer("/params/capabilities/window/workDoneProgress") {
+        None => false,
+        Some(shows) => is_true(shows),
     }
 }
 

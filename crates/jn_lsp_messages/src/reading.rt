@@ -7,7 +7,7 @@ use crate::folders::{added_in, folders_in, removed_in};
 use crate::method::{Method, method_of};
 use crate::params::{
     changes_in, document_name, document_text, document_version, encoding_in, exclude_in, files_in,
-    infer_in, markup_in, named_position, named_range, text_in,
+    infer_in, markup_in, named_position, named_range, progress_in, text_in,
 };
 use jn_base::{OutOfMemory, Text};
 use jn_lsp_text::{Id, Message};
@@ -223,6 +223,7 @@ fn initialize(alloc: Global, id: Id, body: &Value) -> Result<Message, OutOfMemor
     let infer = infer_in(body);
     let markup = markup_in(body);
     let encoding = encoding_in(body);
+    let progress = progress_in(body);
     let Some(folders) = folders_in(alloc, body)? else {
         return Ok(Message::BadParams { id: Some(id) });
     };
@@ -239,6 +240,7 @@ fn initialize(alloc: Global, id: Id, body: &Value) -> Result<Message, OutOfMemor
             exclude,
             markup,
             encoding,
+            progress,
         }),
     }
 }

@@ -9,6 +9,7 @@ use crate::actions::actions_value;
 use crate::diagnostics::diagnostics_value;
 use crate::hints::hints_value;
 use crate::hovers::hover_value;
+use crate::progress::{announce_value, begin_value, end_value, progress_value};
 use crate::uri::uri_of;
 use crate::watching::watch_value;
 use jn_base::{OutOfMemory, Text};
@@ -69,6 +70,15 @@ fn reply_value(alloc: Global, address: &Option<Text>, reply: &Reply) -> Result<V
         Reply::Hovered { id, markup, hover } => {
             let hover = hover_value(alloc, *markup, hover)?;
             Ok(answer(alloc, id, hover)?)
+        }
+        Reply::Announce { number } => Ok(announce_value(alloc, *number)?),
+        Reply::Begin { number } => {
+            let said = begin_value(alloc)?;
+            Ok(progress(alloc, *number, said)?)
+        }
+        Reply::End { number } => {
+            let said = end_value(alloc)?;
+            Ok(progress(alloc, *number, said)?)
         }
     }
 }
@@ -250,4 +260,12 @@ fn shown(alloc: Global, words: &str) -> Result<Value, AllocError>
     ensures { IfOk result (λ v. view v ≡ spec.shown_data words.now) }
 {
     json!(in alloc; {"message": words, "type": 2u32})
+}
+
+fn progress(alloc: Global, number: u32, said: Value) -> Result<Value, AllocError>
+    ensures { IfOk result (λ v.
+        view v ≡ spec.notice_data (codes "$/progress") (spec.progress_data number (view said))) }
+{
+    let params = progress_value(alloc, number, said)?;
+    notice(alloc, "$/progress", params)
 }
