@@ -49,7 +49,7 @@ refused failure None = refl
 refused failure (Some id) = refl
 
 waiting_one : (message : Message) → IsAnswer (waiting_answer message) (id_asked message)
-waiting_one (Initialize id folders infer files exclude markup encoding) = refl
+waiting_one (Initialize id folders infer files exclude markup encoding progress) = refl
 waiting_one Initialized = refl
 waiting_one (DidOpen name version text) = refl
 waiting_one (DidChange name version changes) = refl
@@ -72,7 +72,7 @@ waiting_one BadHeader = refl
 waiting_one TooLarge = refl
 
 serving_one : (markup : Markup) (actions : List Action) (hints : List Hint) (hover : Option Hover) (message : Message) → IsAnswer (serving_answer markup actions hints hover message) (id_asked message)
-serving_one markup actions hints hover (Initialize id folders infer files exclude other encoding) = refl
+serving_one markup actions hints hover (Initialize id folders infer files exclude other encoding progress) = refl
 serving_one markup actions hints hover Initialized = refl
 serving_one markup actions hints hover (DidOpen name version text) = refl
 serving_one markup actions hints hover (DidChange name version changes) = refl
@@ -95,7 +95,7 @@ serving_one markup actions hints hover BadHeader = refl
 serving_one markup actions hints hover TooLarge = refl
 
 late_one : (message : Message) → IsAnswer (late_answer message) (id_asked message)
-late_one (Initialize id folders infer files exclude markup encoding) = refl
+late_one (Initialize id folders infer files exclude markup encoding progress) = refl
 late_one Initialized = refl
 late_one (DidOpen name version text) = refl
 late_one (DidChange name version changes) = refl
@@ -165,7 +165,7 @@ clash : {X : Type 0} → true ≡ false → X
 clash e = absurd (cc)
 
 waiting_on : (message : Message) → is_exit (MessageEvent message) ≡ false → IsLive (phase_behind Waiting message)
-waiting_on (Initialize id folders infer files exclude markup encoding) e = tt
+waiting_on (Initialize id folders infer files exclude markup encoding progress) e = tt
 waiting_on Initialized e = tt
 waiting_on (DidOpen name version text) e = tt
 waiting_on (DidChange name version changes) e = tt
@@ -188,7 +188,7 @@ waiting_on BadHeader e = tt
 waiting_on TooLarge e = tt
 
 serving_on : (message : Message) → is_exit (MessageEvent message) ≡ false → IsLive (phase_behind Serving message)
-serving_on (Initialize id folders infer files exclude markup encoding) e = tt
+serving_on (Initialize id folders infer files exclude markup encoding progress) e = tt
 serving_on Initialized e = tt
 serving_on (DidOpen name version text) e = tt
 serving_on (DidChange name version changes) e = tt
@@ -211,7 +211,7 @@ serving_on BadHeader e = tt
 serving_on TooLarge e = tt
 
 shut_down_on : (message : Message) → is_exit (MessageEvent message) ≡ false → IsLive (phase_behind ShutDown message)
-shut_down_on (Initialize id folders infer files exclude markup encoding) e = tt
+shut_down_on (Initialize id folders infer files exclude markup encoding progress) e = tt
 shut_down_on Initialized e = tt
 shut_down_on (DidOpen name version text) e = tt
 shut_down_on (DidChange name version changes) e = tt
@@ -243,7 +243,7 @@ live_on Serving (Folder files) live e = tt
 live_on ShutDown (Folder files) live e = tt
 
 exit_is : (message : Message) → is_exit (MessageEvent message) ≡ true → message ≡ Exit
-exit_is (Initialize id folders infer files exclude markup encoding) e = clash (sym e)
+exit_is (Initialize id folders infer files exclude markup encoding progress) e = clash (sym e)
 exit_is Initialized e = clash (sym e)
 exit_is (DidOpen name version text) e = clash (sym e)
 exit_is (DidChange name version changes) e = clash (sym e)

@@ -45,7 +45,7 @@ module _ (name : List ℕ) (last : List Diagnostic) where
   refusal_silent failure (Some id) = refl
 
   waiting_silent : (message : Message) → IsSilent (waiting_answer message)
-  waiting_silent (Initialize id folders infer files exclude markup encoding) = refl
+  waiting_silent (Initialize id folders infer files exclude markup encoding progress) = refl
   waiting_silent Initialized = refl
   waiting_silent (DidOpen named version text) = refl
   waiting_silent (DidChange named version changes) = refl
@@ -68,7 +68,7 @@ module _ (name : List ℕ) (last : List Diagnostic) where
   waiting_silent TooLarge = refl
 
   serving_silent : (markup : Markup) (actions : List Action) (hints : List Hint) (hover : Option Hover) (message : Message) → IsSilent (serving_answer markup actions hints hover message)
-  serving_silent markup actions hints hover (Initialize id folders infer files exclude other encoding) = refl
+  serving_silent markup actions hints hover (Initialize id folders infer files exclude other encoding progress) = refl
   serving_silent markup actions hints hover Initialized = refl
   serving_silent markup actions hints hover (DidOpen named version text) = refl
   serving_silent markup actions hints hover (DidChange named version changes) = refl
@@ -91,7 +91,7 @@ module _ (name : List ℕ) (last : List Diagnostic) where
   serving_silent markup actions hints hover TooLarge = refl
 
   late_silent : (message : Message) → IsSilent (late_answer message)
-  late_silent (Initialize id folders infer files exclude markup encoding) = refl
+  late_silent (Initialize id folders infer files exclude markup encoding progress) = refl
   late_silent Initialized = refl
   late_silent (DidOpen named version text) = refl
   late_silent (DidChange named version changes) = refl

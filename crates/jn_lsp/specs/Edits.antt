@@ -56,7 +56,7 @@ abbrev pub AreEdited : Encoding → List (List ℕ) → Message → List SourceF
 AreEdited encoding unknown (DidOpen name version text) documents after = after ≡ opened name text documents
 AreEdited encoding unknown (DidChange name version changes) documents after = IsTyped encoding name changes documents (known_document unknown name documents) after
 AreEdited encoding unknown (DidClose name) documents after = after ≡ closed name documents
-AreEdited encoding unknown (Initialize id folders infer files exclude markup other) documents after = after ≡ None
+AreEdited encoding unknown (Initialize id folders infer files exclude markup other progress) documents after = after ≡ None
 AreEdited encoding unknown Initialized documents after = after ≡ None
 AreEdited encoding unknown (DidSave name) documents after = after ≡ None
 AreEdited encoding unknown WatchedFiles documents after = after ≡ None

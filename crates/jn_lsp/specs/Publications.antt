@@ -3,7 +3,7 @@ use Rattle.std.specs.Prelude.{ℕ, ◌≡◌, ◌⊎◌, ◌++◌, Bool, true, f
 use Rattle.std.specs.List.{list_any}
 use Rattle.jn_lsp_text.specs.declared.reply.Diagnostic.{Diagnostic}
 use Rattle.jn_lsp_text.specs.declared.reply.Reply.{Reply}
-use Rattle.jn_lsp_text.specs.declared.reply.Reply.TheVariants.{Capabilities, Done, Refusal, Publish, Show, Watch, Actions, Hints, Hovered}
+use Rattle.jn_lsp_text.specs.declared.reply.Reply.TheVariants.{Capabilities, Done, Refusal, Publish, Show, Watch, Actions, Hints, Hovered, Announce, Begin, End}
 use Rattle.jn_lsp.specs.declared.diagnostics.Told.{Told}
 use Rattle.jn_lsp.specs.declared.versions.Version.{Version}
 use Rattle.jn_lsp.specs.Telling.{told_of}
@@ -67,6 +67,9 @@ published name before Watch = before
 published name before (Actions id actions) = before
 published name before (Hints id hints) = before
 published name before (Hovered id markup hover) = before
+published name before (Announce number) = before
+published name before (Begin number) = before
+published name before (End number) = before
 
 -- what was published last of a name; where nothing was, this
 abbrev pub last_published : List ℕ → List Diagnostic → List Reply → List Diagnostic

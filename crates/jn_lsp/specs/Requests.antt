@@ -11,7 +11,7 @@ use Rattle.jn_lsp.specs.declared.event.Event.TheVariants.{Folder, Message as Mes
 
 -- the id of a request; a notification has none, nor what can't be read
 abbrev pub id_asked : Message → Option Id
-id_asked (Initialize id folders infer files exclude markup encoding) = Some id
+id_asked (Initialize id folders infer files exclude markup encoding progress) = Some id
 id_asked (CodeAction id name range) = Some id
 id_asked (InlayHint id name range) = Some id
 id_asked (Hover id name position) = Some id

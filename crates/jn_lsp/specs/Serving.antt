@@ -51,7 +51,7 @@ unread NoMessage = Some Request
 unread TooLarge = Some Request
 unread NoJson = Some Parse
 unread BadHeader = Some Parse
-unread (Initialize id folders infer files exclude markup encoding) = None
+unread (Initialize id folders infer files exclude markup encoding progress) = None
 unread Initialized = None
 unread (DidOpen name version text) = None
 unread (DidChange name version changes) = None
@@ -79,7 +79,7 @@ nameless (Some failure) = Some (Refusal None failure)
 
 -- before `initialize` no other request is served
 abbrev pub waiting_answer : Message → Option Reply
-waiting_answer (Initialize id folders infer files exclude markup encoding) = Some (Capabilities id encoding)
+waiting_answer (Initialize id folders infer files exclude markup encoding progress) = Some (Capabilities id encoding)
 waiting_answer (CodeAction id name range) = refusal NotInitialized (Some id)
 waiting_answer (InlayHint id name range) = refusal NotInitialized (Some id)
 waiting_answer (HoverAsked id name position) = refusal NotInitialized (Some id)
@@ -90,7 +90,7 @@ waiting_answer other = nameless (unread other)
 
 -- a second `initialize` is refused, and these are the actions, the hints and what is shown at a position, for requests of them
 abbrev pub serving_answer : Markup → List Action → List Hint → Option Hover → Message → Option Reply
-serving_answer markup actions hints hover (Initialize id folders infer files exclude other encoding) = refusal Request (Some id)
+serving_answer markup actions hints hover (Initialize id folders infer files exclude other encoding progress) = refusal Request (Some id)
 serving_answer markup actions hints hover (CodeAction id name range) = Some (Actions id actions)
 serving_answer markup actions hints hover (InlayHint id name range) = Some (Hints id hints)
 serving_answer markup actions hints hover (HoverAsked id name position) = Some (Hovered id markup hover)
@@ -101,7 +101,7 @@ serving_answer markup actions hints hover other = nameless (unread other)
 
 -- after `shutdown` every request is refused
 abbrev pub late_answer : Message → Option Reply
-late_answer (Initialize id folders infer files exclude markup encoding) = refusal Request (Some id)
+late_answer (Initialize id folders infer files exclude markup encoding progress) = refusal Request (Some id)
 late_answer (CodeAction id name range) = refusal Request (Some id)
 late_answer (InlayHint id name range) = refusal Request (Some id)
 late_answer (HoverAsked id name position) = refusal Request (Some id)
@@ -118,7 +118,7 @@ answer_of markup actions hints hover ShutDown message = late_answer message
 answer_of markup actions hints hover (Exited in_order) _ = None
 
 abbrev pub phase_behind : Phase → Message → Phase
-phase_behind Waiting (Initialize id folders infer files exclude markup encoding) = Serving
+phase_behind Waiting (Initialize id folders infer files exclude markup encoding progress) = Serving
 phase_behind Waiting Exit = Exited false
 phase_behind Waiting _ = Waiting
 phase_behind Serving (Shutdown id) = ShutDown
@@ -158,7 +158,7 @@ IsMoved (MessageEvent message) before after = (documents : Option (List SourceFi
 
 -- `initialize` says which members are inferred, how the client shows what stands at a position, and the unit of positions
 abbrev pub chosen_by : Message → Workspace → Option Workspace
-chosen_by (Initialize id folders infer files exclude markup encoding) before = Some (workspace_of (chosen infer before.infer) markup encoding before.disk before.documents before.unknown before.versions)
+chosen_by (Initialize id folders infer files exclude markup encoding progress) before = Some (workspace_of (chosen infer before.infer) markup encoding before.disk before.documents before.unknown before.versions)
 chosen_by _ before = None
 
 abbrev pub started_by : Event → Workspace → Option Workspace

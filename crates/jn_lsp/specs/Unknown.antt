@@ -90,7 +90,7 @@ doubts unknown names = map doubt (newly unknown names)
 
 -- what a message says of the members that are inferred
 abbrev pub choice_in : Message → Choice
-choice_in (Initialize id folders infer files exclude markup encoding) = infer
+choice_in (Initialize id folders infer files exclude markup encoding progress) = infer
 choice_in _ = choice.Unsaid
 
 -- a warning of a choice that says nothing

@@ -131,11 +131,11 @@ impl Server {
         self.phase
     }
 
-    /// The documents that the client has open, in the order in which they were opened.
-    pub fn documents(&self) -> &[SourceFile]
-        ensures { result.now ≡ self.now.workspace.documents }
+    /// The files and the settings.
+    pub fn workspace(&self) -> &Workspace
+        ensures { result.now ≡ self.now.workspace }
     {
-        self.workspace.documents.as_slice()
+        &self.workspace
     }
 
     /// What was told last of the files that stand, in their order: the diagnostics of their report.
