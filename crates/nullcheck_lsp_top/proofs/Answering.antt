@@ -17,7 +17,8 @@ use Rattle.jn_lsp.specs.declared.event.Event.TheVariants.{Folder, Message as Mes
 use Rattle.jn_lsp.specs.Requests.{AreAnswered, id_answered, id_asked, ids_answered, ids_asked, is_exit}
 use Rattle.jn_lsp.specs.Serving.{ServerOf, Serves, Takes, new_server}
 use Rattle.nullcheck_lsp_top.specs.declared.client.Client.{Client}
-use Rattle.nullcheck_lsp_top.specs.Hearing.{AnsweredOnce, Hears, HearsAll, IsMessageOf, Looks, LooksWhere, documents_of, foreign, looks, noticed, taken_as}
+use Rattle.nullcheck_lsp_top.specs.Announcing.{begins, ends}
+use Rattle.nullcheck_lsp_top.specs.Hearing.{AnsweredOnce, Hears, HearsAll, IsMessageOf, Looks, LooksWhere, announced, begun, documents_of, ended, foreign, looks, noticed, taken_as}
 use Rattle.nullcheck_lsp_top.specs.Looking.{Outside, new_client}
 use Rattle.nullcheck_lsp_top.specs.declared.client.Root.{Root}
 use Rattle.nullcheck_lsp_top.specs.Placing.{asks, is_asked, or_ignored, placed, placed_name, says}
@@ -66,7 +67,7 @@ doubted_as None name = (refl, refl)
 doubted_as (Some place) name = (refl, refl)
 
 placed_asks : (root : Root) (documents : List SourceFile) (message : Message) → AsksAs (placed root documents message) message
-placed_asks root documents (Initialize id folders infer files exclude markup encoding) = (refl, refl)
+placed_asks root documents (Initialize id folders infer files exclude markup encoding progress) = (refl, refl)
 placed_asks root documents Initialized = (refl, refl)
 placed_asks root documents (DidOpen name version text) = opened_as (placed_name root documents name) name version text
 placed_asks root documents (DidChange name version changes) = changed_as (placed_name root documents name) name version changes
@@ -148,18 +149,27 @@ says_unasked false (Some name) = refl
 both_unasked : (asked said : Bool) (foreign_ : Option (List ℕ)) → ids_answered (asks asked ++ says said foreign_) ≡ []
 both_unasked asked said foreign_ = both_answered (asks asked) (says said foreign_) ∙ ap (λ ids. ids ++ ids_answered (says said foreign_)) (asks_unasked asked) ∙ says_unasked said foreign_
 
-served_behind : (before last : ServerOf) (messages : List Message) (sent one rest : List Reply) → ids_answered sent ≡ [] → Served before last messages (one ++ rest) → Served before last messages ((sent ++ one) ++ rest)
-served_behind before last messages sent one rest unasked s = record {
+begins_unasked : (announced_ : Bool) (number : ℕ) → ids_answered (begins announced_ number) ≡ []
+begins_unasked false number = refl
+begins_unasked true number = refl
+
+ends_unasked : (announced_ : Bool) (number : ℕ) → ids_answered (ends announced_ number) ≡ []
+ends_unasked false number = refl
+ends_unasked true number = refl
+
+served_behind : (before last : ServerOf) (messages : List Message) (sent replies : List Reply) → ids_answered sent ≡ [] → Served before last messages replies → Served before last messages (sent ++ replies)
+served_behind before last messages sent replies unasked s = record {
   events = s.events;
   said = s.said;
   serves = s.serves;
   asked = s.asked;
-  answered =
-      ap (λ (rs : List Reply). ids_answered rs) (append_assoc sent one rest)
-      ∙ both_answered sent (one ++ rest)
-      ∙ ap (λ ids. ids ++ ids_answered (one ++ rest)) unasked
-      ∙ s.answered;
+  answered = both_answered sent replies ∙ ap (λ ids. ids ++ ids_answered replies) unasked ∙ s.answered;
 }
+
+regrouped : (begun_ sent one ended_ rest : List Reply) → (begun_ ++ (sent ++ (one ++ ended_))) ++ rest ≡ begun_ ++ (sent ++ (one ++ (ended_ ++ rest)))
+regrouped begun_ sent one ended_ rest =
+    append_assoc begun_ (sent ++ (one ++ ended_)) rest
+    ∙ ap (λ (rs : List Reply). begun_ ++ rs) (append_assoc sent (one ++ ended_) rest ∙ ap (λ (rs : List Reply). sent ++ rs) (append_assoc one ended_ rest))
 
 -- the messages that frames were
 record Heard (held : Option Holding) (before after : Client) (frames : List Frame) (replies : List Reply) : Type 0 where
@@ -171,9 +181,12 @@ heard_frame : (held : Option Holding) (old new : Outside) (before client after :
 heard_frame held old new before client after frame frames message replies first rest is h all others = record {
   messages = message ∷ others.messages;
   are = (is, others.are);
-  served = subst (λ (rs : List Reply). Served before.server after.server (message ∷ others.messages) rs) (sym (all ∙ ap (λ (rs : List Reply). rs ++ rest) h.all))
-      (served_behind before.server after.server (message ∷ others.messages) (noticed before message) (h.first ++ h.more) rest (both_unasked (is_asked before.server.phase before.root message) before.said (foreign before message))
-      (by_files held before.server after.server h.mid client (taken_as before message) message (placed_asks before.root (documents_of before) message) others.messages h.first h.more rest h.takes others.served (looks before.server.phase (taken_as before message)) h.out new h.behind));
+  served = subst (λ (rs : List Reply). Served before.server after.server (message ∷ others.messages) rs) (sym (all ∙ ap (λ (rs : List Reply). rs ++ rest) h.all ∙ regrouped (begun before message) (noticed before message) (h.first ++ h.more) (ended before message) rest))
+      (served_behind before.server after.server (message ∷ others.messages) (begun before message) (noticed before message ++ ((h.first ++ h.more) ++ (ended before message ++ rest))) (begins_unasked (announced before message) before.progress.next)
+      (served_behind before.server after.server (message ∷ others.messages) (noticed before message) ((h.first ++ h.more) ++ (ended before message ++ rest)) (both_unasked (is_asked before.server.phase before.root message) before.said (foreign before message))
+      (by_files held before.server after.server h.mid client (taken_as before message) message (placed_asks before.root (documents_of before) message) others.messages h.first h.more (ended before message ++ rest) h.takes
+      (served_behind client.server after.server others.messages (ended before message) rest (ends_unasked (announced before message) before.progress.next) others.served)
+      (looks before.server.phase (taken_as before message)) h.out new h.behind)));
 }
 
 heard_all : (held : Option Holding) (old new : Outside) (before after : Client) (frames : List Frame) (replies : List Reply) → HearsAll held old new before frames replies after → Heard held before after frames replies

@@ -1,6 +1,6 @@
 -- One message and then another.
 use Rattle.std.proofs.Common.{◌≡◌, Bool, ℕ, ◌++◌, List, [], ◌∷◌, Option, refl, sym, ap, ◌∙◌, subst, append_assoc, append-nil}
-use Rattle.std.specs.Prelude.{◌||◌, is_some}
+use Rattle.std.specs.Prelude.{◌||◌}
 use Rattle.std.proofs.lemmas.Grind.{flat_map-append}
 use Rattle.jn_outside.specs.Files.{Holding}
 use Rattle.jn_front.specs.declared.source.SourceFile.{SourceFile}
@@ -8,11 +8,12 @@ use Rattle.jn_lsp_frames.specs.declared.frame.Frame.{Frame}
 use Rattle.jn_lsp_text.specs.declared.message.Message.{Message}
 use Rattle.jn_lsp_text.specs.declared.reply.Reply.{Reply}
 use Rattle.jn_lsp.specs.declared.event.Event.TheVariants.{Folder, Message as MessageEvent}
-use Rattle.jn_lsp.specs.declared.phase.Phase.{Phase}
 use Rattle.jn_lsp.specs.Serving.{ServerOf, Takes}
 use Rattle.nullcheck_lsp_top.specs.declared.client.Client.{Client}
 use Rattle.nullcheck_lsp_top.specs.declared.client.Root.{Root}
-use Rattle.nullcheck_lsp_top.specs.Hearing.{Hears, HearsAll, IsMessageOf, Looks, LooksWhere, foreign, framed, looks, noticed, taken_as, told_by, written}
+use Rattle.nullcheck_lsp_top.specs.declared.messages.Task.{Task}
+use Rattle.nullcheck_lsp_top.specs.Announcing.{ends}
+use Rattle.nullcheck_lsp_top.specs.Hearing.{Hears, HearsAll, IsMessageOf, IsTask, Looks, LooksWhere, begun, framed, noticed, written}
 use Rattle.nullcheck_lsp_top.specs.Looking.{IsFound, Outside, Traces, root_or}
 use Rattle.nullcheck_lsp_top.specs.Reading.{shows}
 
@@ -20,33 +21,35 @@ pub framed_both : (address : Option (List ℕ)) (xs ys : List Reply) → framed 
 framed_both address xs ys = flat_map-append (written address) xs ys
 
 -- files were read, and the server was told of them
-pub looks_from : (held : Option Holding) (old new : Outside) (before after : Client) (files : List SourceFile) (warnings : List (List ℕ)) (told news replies : List Reply) → IsFound held before.root old new files warnings → told ≡ shows before.shown warnings → Takes before.server (Folder files) news after.server → after.root ≡ before.root → after.said ≡ before.said → after.shown ≡ warnings → replies ≡ told ++ news → Looks held old new before after replies
-looks_from held old new before after files warnings told news replies found says_ takes root said shown all = record {
+pub looks_from : (held : Option Holding) (old new : Outside) (before after : Client) (files : List SourceFile) (warnings : List (List ℕ)) (told news replies : List Reply) → IsFound held before.root old new files warnings → told ≡ shows before.shown warnings → Takes before.server (Folder files) news after.server → after.root ≡ before.root → after.said ≡ before.said → after.progress ≡ before.progress → after.shown ≡ warnings → replies ≡ told ++ news → Looks held old new before after replies
+looks_from held old new before after files warnings told news replies found says_ takes root said progress shown all = record {
   files = files;
   news = news;
   found = subst (λ (ws : List (List ℕ)). IsFound held before.root old new files ws) (sym shown) found;
   takes = takes;
   root = root;
   said = said;
+  progress = progress;
   all = all ∙ ap (λ (rs : List Reply). rs ++ news) (says_ ∙ ap (λ (ws : List (List ℕ)). shows before.shown ws) (sym shown));
 }
 
 -- a message was taken, as far as it is about the workspace
-module _ (held : Option Holding) (old out new : Outside) (told : Option Root) (before start mid after : Client) (message taken : Message) (sent first more replies : List Reply) where
-  pub hears_from : Traces (told_by before message) told old out → start.server ≡ before.server → start.root ≡ root_or told before.root → start.shown ≡ before.shown → start.said ≡ (before.said || is_some (foreign before message)) → taken ≡ taken_as before message → Takes start.server (MessageEvent taken) first mid.server → mid.root ≡ start.root → mid.shown ≡ start.shown → mid.said ≡ start.said → LooksWhere (looks before.server.phase taken) held out new mid after more → sent ≡ noticed before message → replies ≡ sent ++ (first ++ more) → Hears held old new before message replies after
-  hears_from traces server root shown said is takes same_root same_shown same_said behind sent_is all = record {
+module _ (held : Option Holding) (old out new : Outside) (told : Option Root) (before start mid after : Client) (message : Message) (task : Task) (first more replies : List Reply) where
+  pub hears_from : IsTask before message task → Traces task.told told old out → start.server ≡ before.server → start.root ≡ root_or told before.root → start.shown ≡ before.shown → start.said ≡ (before.said || task.foreign) → start.progress ≡ task.progress → Takes start.server (MessageEvent task.message) first mid.server → mid.root ≡ start.root → mid.shown ≡ start.shown → mid.said ≡ start.said → mid.progress ≡ start.progress → LooksWhere task.looks held out new mid after more → replies ≡ task.notices.items ++ ((first ++ more) ++ ends task.announced before.progress.next) → Hears held old new before message (begun before message ++ replies) after
+  hears_from is traces server root shown said progress takes same_root same_shown same_said same_progress behind all = record {
     first = first;
     more = more;
     told = told;
     out = out;
-    traces = traces;
+    traces = subst (λ (r : Option Root). Traces r told old out) is.told traces;
     mid = mid;
-    takes = subst (λ (m : Message). Takes before.server (MessageEvent m) first mid.server) is (subst (λ (s : ServerOf). Takes s (MessageEvent taken) first mid.server) server takes);
+    takes = subst (λ (m : Message). Takes before.server (MessageEvent m) first mid.server) is.taken (subst (λ (s : ServerOf). Takes s (MessageEvent task.message) first mid.server) server takes);
     root = same_root ∙ root;
     shown = same_shown ∙ shown;
-    said = same_said ∙ said;
-    behind = subst (λ (m : Message). LooksWhere (looks before.server.phase m) held out new mid after more) is behind;
-    all = all ∙ ap (λ (rs : List Reply). rs ++ (first ++ more)) sent_is;
+    said = same_said ∙ said ∙ ap (λ b. before.said || b) is.foreign;
+    progress = same_progress ∙ progress ∙ is.progress;
+    behind = subst (λ (b : Bool). LooksWhere b held out new mid after more) is.looks behind;
+    all = ap (λ (rs : List Reply). begun before message ++ rs) (all ∙ ap (λ (rs : List Reply). rs ++ ((first ++ more) ++ ends task.announced before.progress.next)) is.notices ∙ ap (λ (b : Bool). noticed before message ++ ((first ++ more) ++ ends b before.progress.next)) is.announced);
   }
 
 -- a frame more
@@ -73,7 +76,3 @@ hears_more held old mid new before client after (other ∷ frames) frame message
   ap (λ (rs : List Reply). rs ++ more) all ∙ append_assoc first rest more,
   hears_more held m mid new c client after frames frame message rest more others reads hears,
 )
-
--- by the phase before the message
-pub looks_by : (b : Bool) (phase before : Phase) (message : Message) → b ≡ looks phase message → phase ≡ before → b ≡ looks before message
-looks_by b phase before message is same = is ∙ ap (λ p. looks p message) same

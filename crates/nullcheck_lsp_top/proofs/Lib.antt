@@ -1,8 +1,10 @@
+pub mod Counting
 pub mod Answering
 pub mod Reading
 pub mod Searching
 pub mod Hearing
 pub mod Looping
+pub mod Opening
 pub mod Ending
 pub mod UpToDate
 pub mod Wording

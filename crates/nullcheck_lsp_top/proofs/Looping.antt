@@ -26,8 +26,8 @@ use Rattle.nullcheck_lsp_top.specs.declared.frames.Heard.TheVariants.{Ends}
 use Rattle.nullcheck_lsp_top.specs.declared.status.Status.{Status}
 use Rattle.nullcheck_lsp_top.specs.declared.status.Status.TheVariants.{Done, Ended, ReadFault, WriteFault, OutOfMemory, Usage}
 use Rattle.jn_cli.specs.declared.server.Setup.{Setup}
-use Rattle.nullcheck_lsp_top.specs.Answer.{Answered, AnsweredFirst, Answers, AsksInTime, Channels, EndsBy, IsAnswer, IsCut, IsDone, IsEnded, IsHeard, IsInTime, Served, StartsOne, Takes, goes_on, most_messages}
-use Rattle.nullcheck_lsp_top.specs.Hearing.{Hears, IsMessageOf, StartsFor, framed}
+use Rattle.nullcheck_lsp_top.specs.Answer.{Answered, AnsweredFirst, Answers, AsksInTime, Begins, BeginsOne, BegunFirst, Channels, EndsBy, First, IsAnswer, IsCut, IsDone, IsEnded, IsHeard, IsInTime, Served, Starts, Takes, goes_on, most_messages}
+use Rattle.nullcheck_lsp_top.specs.Hearing.{Hears, IsMessageOf, StartsBy, begun, framed}
 use Rattle.nullcheck_lsp_top.specs.Looking.{Outside, new_client}
 use Rattle.nullcheck_lsp_top.proofs.Hearing.{framed_both, hears_more}
 
@@ -62,24 +62,41 @@ counts_short T E before now fail is counts = subst (λ f. Counts {T = T} before 
 
 -- ---- a frame
 
-module _ (address : Option (List ℕ)) (held : Option Holding) (from to : Option (List ℕ)) (before now : ℕ) (old new : Outside) (client : Client) (frame : Frame) (after : Client) where
-  takes_by : (bytes : List ℕ) (Took : Option (List ℕ) → Option (List ℕ) → List ℕ → Type 0) → IsAnswer address held old new client frame after bytes → Took from to bytes → Takes address held from to before now old new client frame after Took
-  takes_by bytes Took a took = record { message = a.message; is = a.is; replies = a.replies; hears = a.hears; taken = subst (Took from to) a.are took }
+module _ (address : Option (List ℕ)) (held : Option Holding) (from mid to : Option (List ℕ)) (before now : ℕ) (old new : Outside) (client : Client) (frame : Frame) (after : Client) (message : Message) (is : IsMessageOf frame message) where
+  Heard_ : Heard → Type 0
+  Heard_ result = IsHeard address held from to before now old new client frame after result
 
-  by_phase : (phase : Phase) → after.server.phase ≡ phase → Takes address held from to before now old new client frame after Appends → now ≡ before → IsHeard address held from to before now old new client frame after (goes_on phase)
-  by_phase Waiting is t same = (t, same)
-  by_phase Serving is t same = (t, same)
-  by_phase ShutDown is t same = (t, same)
-  by_phase (Exited true) is t same = (t, is, same)
-  by_phase (Exited false) is t same = (t, is, same)
+  Taken_ : (Option (List ℕ) → Option (List ℕ) → List ℕ → Type 0) → Type 0
+  Taken_ Took = Takes address held from to before now old new client frame after Took
 
-  -- the replies were written
-  pub heard_whole : (bytes : List ℕ) (phase : Phase) (result : Heard) → IsAnswer address held old new client frame after bytes → Appends from to bytes → now ≡ before → phase ≡ after.server.phase → result ≡ goes_on phase → IsHeard address held from to before now old new client frame after result
-  heard_whole bytes phase result a took same is goes = subst (λ (r : Heard). IsHeard address held from to before now old new client frame after r) (sym goes) (by_phase phase (sym is) (takes_by bytes Appends a took) same)
+  -- memory wasn't found for the answer to its message
+  pub heard_short : Appends from to (framed address (begun client message)) → (new ≡ old) ⊎ StartsBy held old new client message → now ≡ before → Heard_ (Ends OutOfMemory)
+  heard_short took starts same = (inr (record { message = message; is = is; taken = took }, starts), same)
 
-  -- a prefix of them was
-  pub heard_broken : (bytes : List ℕ) → IsAnswer address held old new client frame after bytes → AppendsPrefix from to bytes → Rose before now → IsHeard address held from to before now old new client frame after (Ends WriteFault)
-  heard_broken bytes a took rose = (takes_by bytes AppendsPrefix a took, rose)
+  -- of what is sent before its message is worked on a prefix was written
+  pub heard_unbegun : AppendsPrefix from to (framed address (begun client message)) → new ≡ old → Rose before now → Heard_ (Ends WriteFault)
+  heard_unbegun took same rose = (inr (record { message = message; is = is; taken = took }, same), rose)
+
+  -- that was written, and then so much of these bytes
+  module _ (bytes : List ℕ) (took : Appends from mid (framed address (begun client message))) (a : IsAnswer address held old new client message after bytes) where
+    all : framed address (begun client message) ++ bytes ≡ framed address (begun client message ++ a.replies)
+    all = ap (λ (b : List ℕ). framed address (begun client message) ++ b) a.are ∙ sym (framed_both address (begun client message) a.replies)
+
+    takes_by : (Took : Option (List ℕ) → Option (List ℕ) → List ℕ → Type 0) → Took from to (framed address (begun client message) ++ bytes) → Taken_ Took
+    takes_by Took wrote = record { message = message; is = is; replies = begun client message ++ a.replies; hears = a.hears; taken = subst (Took from to) all wrote }
+
+    by_phase : (phase : Phase) → after.server.phase ≡ phase → Taken_ Appends → now ≡ before → Heard_ (goes_on phase)
+    by_phase Waiting e t same = (t, same)
+    by_phase Serving e t same = (t, same)
+    by_phase ShutDown e t same = (t, same)
+    by_phase (Exited true) e t same = (t, e, same)
+    by_phase (Exited false) e t same = (t, e, same)
+
+    pub heard_whole : (phase : Phase) (result : Heard) → Appends mid to bytes → now ≡ before → phase ≡ after.server.phase → result ≡ goes_on phase → Heard_ result
+    heard_whole phase result wrote same e goes = subst Heard_ (sym goes) (by_phase phase (sym e) (takes_by Appends (taken_more from mid to (framed address (begun client message)) bytes took wrote)) same)
+
+    pub heard_broken : AppendsPrefix mid to bytes → Rose before now → Heard_ (Ends WriteFault)
+    heard_broken wrote rose = (inl (takes_by AppendsPrefix (prefix_more from mid to (framed address (begun client message)) bytes took wrote)), rose)
 
 -- the input failed where no frame was whole
 pub lacks_refused : (T E : Type 0) (Such : List ℕ → Type 0) (gave pending now : List ℕ) (fail : Fail E) (error : E) → fail ≡ Refused error → Lacks {T = T} Such gave pending now (Err fail) → (more : List ℕ) × (now ≡ gave ++ more) × Such (pending ++ more)
@@ -109,9 +126,9 @@ runs_none setup held at old pending client none new = record {
 }
 
 module _ (setup : Setup) (held : Option Holding) (from mid : Channels) (old out : Outside) (turns : ℕ) (pending : List ℕ) (client : Client) (run : Running setup held from mid old out turns pending client) where
-  -- what was read before memory wasn't found
-  first_of : (to : Channels) (new : Outside) → Grows mid.given to.given → (new ≡ out) ⊎ StartsOne setup held from to old new out run.frames client → Appends from.written to.written (framed setup.address run.replies) → AnsweredFirst setup held from to old new
-  first_of to new grows starts taken = record {
+  -- what was read before memory wasn't found, or an output failed
+  first_of : (to : Channels) (new : Outside) → Grows mid.given to.given → First setup held from to old new
+  first_of to new grows = record {
     heard = mid.given;
     grows = grows;
     mid = out;
@@ -120,8 +137,6 @@ module _ (setup : Setup) (held : Option Holding) (from mid : Channels) (old out 
     replies = run.replies;
     client = client;
     served = run.served;
-    starts = starts;
-    taken = taken;
   }
 
   same_taken : (to : Channels) → to.written ≡ mid.written → Appends from.written to.written (framed setup.address run.replies)
@@ -147,7 +162,7 @@ module _ (setup : Setup) (held : Option Holding) (from mid : Channels) (old out 
   )
 
   pub ends_short : (to : Channels) → Grows mid.given to.given → to.written ≡ mid.written → to.writes ≡ mid.writes → to.hears ≡ mid.hears → Answers setup held from to old out OutOfMemory
-  ends_short to grows same writes hears = (first_of to out grows (inl refl) (same_taken to same), hears ∙ run.hears, writes ∙ run.writes)
+  ends_short to grows same writes hears = ((first_of to out grows, inl (refl, same_taken to same)), hears ∙ run.hears, writes ∙ run.writes)
 
   ends_so : (end : End) (rest : List ℕ) → EndsSo end rest → (rest ≡ []) ⊎ IsPartial rest
   ends_so Between rest so = inl so
@@ -226,21 +241,28 @@ module _ (setup : Setup) (held : Option Holding) (from mid : Channels) (old out 
     grown : Grows mid.given to.given
     grown = (has.2.more, given ∙ has.2.given)
 
-    -- one frame more was read, and memory wasn't found for it
-    starts_one : (new ≡ out) ⊎ StartsFor held out new client frame → (new ≡ out) ⊎ StartsOne setup held from to old new out run.frames client
-    starts_one (inl same) = inl same
-    starts_one (inr starts) = inr (record {
-      frame = frame;
-      left = left;
-      gives = subst (λ (b : List ℕ). Gives from.given b (run.frames ++ frame ∷ []) left) (sym given) (gives_more from.given mid.given read.given run.frames frame pending left has.0 run.served.gives has.1 has.2);
-      starts = starts;
-    })
+    gives_one : Gives from.given to.given (run.frames ++ frame ∷ []) left
+    gives_one = subst (λ (b : List ℕ). Gives from.given b (run.frames ++ frame ∷ []) left) (sym given) (gives_more from.given mid.given read.given run.frames frame pending left has.0 run.served.gives has.1 has.2)
+
+    -- what is sent before its message is worked on was written, so much of it
+    begins_one : (Took : Option (List ℕ) → Option (List ℕ) → List ℕ → Type 0) (b : Begins setup.address held read.written to.written read.writes to.writes out new client frame after Took) → Took from.written to.written (framed setup.address (run.replies ++ begun client b.message)) → BeginsOne setup held from to old new Took (first_of to new grown)
+    begins_one Took b taken = record { frame = frame; left = left; gives = gives_one; message = b.message; is = b.is; taken = taken }
+
+    -- memory wasn't found for it
+    short_one : ((to.written ≡ read.written) × (new ≡ out)) ⊎ Starts setup.address held read.written to.written read.writes to.writes out new client frame after → AnsweredFirst setup held from to old new
+    short_one (inl (same, none)) = (first_of to new grown, inl (none, same_taken to (same ∙ written)))
+    short_one (inr (one, starts)) = (first_of to new grown, inr (begins_one Appends one (taken_on (begun client one.message) one.taken), starts))
+
+    -- a write of it failed
+    broken_one : Takes setup.address held read.written to.written read.writes to.writes out new client frame after AppendsPrefix ⊎ (Begins setup.address held read.written to.written read.writes to.writes out new client frame after AppendsPrefix × (new ≡ out)) → Answered setup held from to old new AppendsPrefix (IsCut setup held from to old new) ⊎ BegunFirst setup held from to old new
+    broken_one (inl t) = inl (answered AppendsPrefix (IsCut setup held from to old new) t (prefix_on t.replies t.taken) tt)
+    broken_one (inr (one, none)) = inr (first_of to new grown, begins_one AppendsPrefix one (prefix_on (begun client one.message) one.taken), none)
 
     pub ends_frame : (status : Status) → EndsBy setup.address held read.written to.written read.writes to.writes out new client frame after status → Answers setup held from to old new status
     ends_frame Done (t, phase, same) = (answered Appends (IsDone setup held from to old new) t (taken_on t.replies t.taken) phase, heard_same ∙ hears ∙ run.hears, same ∙ writes ∙ run.writes)
     ends_frame Ended (t, phase, same) = (answered Appends (IsEnded setup held from to old new) t (taken_on t.replies t.taken) (inl phase), heard_same ∙ hears ∙ run.hears, same ∙ writes ∙ run.writes)
-    ends_frame WriteFault (t, rose) = (answered AppendsPrefix (IsCut setup held from to old new) t (prefix_on t.replies t.taken) tt, heard_same ∙ hears ∙ run.hears, rose_on from.writes read.writes to.writes (writes ∙ run.writes) rose)
-    ends_frame OutOfMemory (starts, same, kept) = (first_of to new grown (starts_one starts) (same_taken to (same ∙ written)), heard_same ∙ hears ∙ run.hears, kept ∙ writes ∙ run.writes)
+    ends_frame WriteFault (t, rose) = (broken_one t, heard_same ∙ hears ∙ run.hears, rose_on from.writes read.writes to.writes (writes ∙ run.writes) rose)
+    ends_frame OutOfMemory (t, kept) = (short_one t, heard_same ∙ hears ∙ run.hears, kept ∙ writes ∙ run.writes)
     ends_frame ReadFault none = absurd none
     ends_frame Usage none = absurd none
 

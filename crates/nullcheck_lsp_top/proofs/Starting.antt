@@ -9,8 +9,9 @@ use Rattle.jn_front.specs.Files.{file_limit}
 use Rattle.jn_lsp_text.specs.declared.message.Message.{Message}
 use Rattle.nullcheck_lsp_top.specs.declared.client.Client.{Client}
 use Rattle.nullcheck_lsp_top.specs.declared.client.Root.{Root}
-use Rattle.nullcheck_lsp_top.specs.Hearing.{StartsBy, looks, taken_as, told_by}
-use Rattle.nullcheck_lsp_top.specs.Looking.{AreNamedBy, BeginsNamed, Listing, Outside, Starts, StartsWhere, Traces, listing_of, root_or}
+use Rattle.nullcheck_lsp_top.specs.declared.messages.Task.{Task}
+use Rattle.nullcheck_lsp_top.specs.Hearing.{IsTask, StartsBy, looks, taken_as}
+use Rattle.nullcheck_lsp_top.specs.Looking.{AreNamedBy, BeginsNamed, Listing, Outside, Starts, StartsWhere, Traces, TracesFirst, listing_of, root_or}
 use Rattle.nullcheck_lsp_top.specs.Reading.{AreRead, GivesNext, ReadsFirst, Source, is_many, names_taken, source}
 use Rattle.nullcheck_lsp_top.proofs.Searching.{begins_none, traced_none}
 
@@ -90,20 +91,21 @@ starts_files held root old new names missed unnamed many named is read = inr (re
 
 -- ---- a message
 
-pub starts_from : (held : Option Holding) (old out new : Outside) (before : Client) (message taken : Message) (wanted : Bool) (root : Root) (told : Option Root) → Traces (told_by before message) told old out → wanted ≡ looks before.server.phase taken → taken ≡ taken_as before message → root ≡ root_or told before.root → StartsWhere wanted held root out new → StartsBy held old new before message
-starts_from held old out new before message taken wanted root told traces e f g starts = inl (
-  told,
-  out,
-  traces,
-  subst (λ (m : Message). StartsWhere (looks before.server.phase m) held (root_or told before.root) out new) f
-      (subst (λ (r : Root). StartsWhere (looks before.server.phase taken) held r out new) g
-      (subst (λ b. StartsWhere b held root out new) e starts)),
-)
+module _ (held : Option Holding) (old out new : Outside) (before : Client) (message : Message) (task : Task) (is : IsTask before message task) where
+  -- the folders were asked where they really are, and files were read
+  pub starts_from : (root : Root) (told : Option Root) → Traces task.told told old out → root ≡ root_or told before.root → StartsWhere task.looks held root out new → StartsBy held old new before message
+  starts_from root told traces e starts = inl (
+    told,
+    out,
+    subst (λ (r : Option Root). Traces r told old out) is.told traces,
+    subst (λ (r : Root). StartsWhere (looks before.server.phase (taken_as before message)) held r out new) e
+        (subst (λ b. StartsWhere b held root out new) is.looks starts),
+  )
 
--- the folders were asked where they really are, and nothing else
-pub starts_traced : (held : Option Holding) (old out : Outside) (before : Client) (message : Message) (told : Option Root) → Traces (told_by before message) told old out → StartsBy held old out before message
-starts_traced held old out before message told traces = inl (told, out, traces, where_none (looks before.server.phase (taken_as before message)) held (root_or told before.root) out)
+  -- they were asked, and nothing else
+  pub starts_traced : (told : Option Root) → Traces task.told told old out → StartsBy held old out before message
+  starts_traced told traces = inl (told, out, subst (λ (r : Option Root). Traces r told old out) is.told traces, where_none (looks before.server.phase (taken_as before message)) held (root_or told before.root) out)
 
--- nothing was asked
-pub starts_not : (held : Option Holding) (old : Outside) (before : Client) (message : Message) → StartsBy held old old before message
-starts_not held old before message = inr (traced_none (told_by before message) (listing_of old), (refl, refl))
+  -- some of them were
+  pub starts_first : TracesFirst task.told old out → StartsBy held old out before message
+  starts_first first = inr (subst (λ (r : Option Root). TracesFirst r old out) is.told first)

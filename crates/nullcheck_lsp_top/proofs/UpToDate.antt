@@ -13,7 +13,8 @@ use Rattle.jn_lsp.specs.declared.event.Event.TheVariants.{Folder, Message as Mes
 use Rattle.jn_lsp.specs.Publications.{last_published, published}
 use Rattle.jn_lsp.specs.Serving.{ArePublishedLast, IsUpToDate, ServerOf, Serves, Takes, files_of, new_server}
 use Rattle.nullcheck_lsp_top.specs.declared.client.Client.{Client}
-use Rattle.nullcheck_lsp_top.specs.Hearing.{Hears, HearsAll, LooksWhere, foreign, looks, noticed, taken_as}
+use Rattle.nullcheck_lsp_top.specs.Announcing.{begins, ends}
+use Rattle.nullcheck_lsp_top.specs.Hearing.{Hears, HearsAll, LooksWhere, announced, begun, ended, foreign, looks, noticed, taken_as}
 use Rattle.nullcheck_lsp_top.specs.Looking.{Outside, new_client}
 use Rattle.nullcheck_lsp_top.specs.Placing.{asks, is_asked, says}
 use Rattle.nullcheck_lsp_top.specs.Reading.{is_among, shows}
@@ -110,13 +111,33 @@ took_behind before after sent replies silent p = record {
   same = (λ name d. last_both name d sent replies ∙ ap (λ (e : List Diagnostic). last_published name e replies) (silent name d) ∙ p.same name d);
 }
 
+-- nor what is sent before the check at a message, nor what is sent after it
+begins_silent : (announced_ : Bool) (number : ℕ) (name : List ℕ) (before : List Diagnostic) → last_published name before (begins announced_ number) ≡ before
+begins_silent false number name before = refl
+begins_silent true number name before = refl
+
+ends_silent : (announced_ : Bool) (number : ℕ) (name : List ℕ) (before : List Diagnostic) → last_published name before (ends announced_ number) ≡ before
+ends_silent false number name before = refl
+ends_silent true number name before = refl
+
+took_before : (before after : ServerOf) (replies sent : List Reply) → ((name : List ℕ) (d : List Diagnostic) → last_published name d sent ≡ d) → Took before replies after → Took before (replies ++ sent) after
+took_before before after replies sent silent p = record {
+  events = p.events;
+  said = p.said;
+  serves = p.serves;
+  same = (λ name d. last_both name d replies sent ∙ silent name (last_published name d replies) ∙ p.same name d);
+}
+
 heard_one : (held : Option Holding) (old new : Outside) (before after : Client) (message : Message) (replies : List Reply) → Hears held old new before message replies after → Took before.server replies after.server
 heard_one held old new before after message replies h =
     let taken = taken_as before message in
     let sent = noticed before message in
-    is_taken before.server after.server replies (sent ++ (h.first ++ h.more)) h.all
-    (took_behind before.server after.server sent (h.first ++ h.more) (both_silent (is_asked before.server.phase before.root message) before.said (foreign before message))
-    (took_both before.server h.mid.server after.server h.first h.more (took_one before.server h.mid.server (MessageEvent taken) h.first h.takes) (looked (looks before.server.phase taken) held h.out new h.mid after h.more h.behind)))
+    let one = (h.first ++ h.more) ++ ended before message in
+    is_taken before.server after.server replies (begun before message ++ (sent ++ one)) h.all
+    (took_behind before.server after.server (begun before message) (sent ++ one) (begins_silent (announced before message) before.progress.next)
+    (took_behind before.server after.server sent one (both_silent (is_asked before.server.phase before.root message) before.said (foreign before message))
+    (took_before before.server after.server (h.first ++ h.more) (ended before message) (ends_silent (announced before message) before.progress.next)
+    (took_both before.server h.mid.server after.server h.first h.more (took_one before.server h.mid.server (MessageEvent taken) h.first h.takes) (looked (looks before.server.phase taken) held h.out new h.mid after h.more h.behind)))))
 
 heard_all : (held : Option Holding) (old new : Outside) (before after : Client) (frames : List Frame) (replies : List Reply) → HearsAll held old new before frames replies after → Took before.server replies after.server
 heard_all held old new before after [] replies (same, none, is) = took_none before.server after.server replies (ap (λ (c : Client). c.server) is) none

@@ -15,11 +15,12 @@ use Rattle.jn_lsp.specs.declared.phase.Phase.{Phase}
 use Rattle.jn_lsp.specs.declared.phase.Phase.TheVariants.{Waiting, Serving, ShutDown, Exited}
 use Rattle.nullcheck_lsp_top.specs.declared.client.Client.{Client}
 use Rattle.nullcheck_lsp_top.specs.declared.frames.Heard.{Heard}
+use Rattle.nullcheck_lsp_top.specs.declared.frames.Opening.{Opening}
 use Rattle.nullcheck_lsp_top.specs.declared.frames.Heard.TheVariants.{Goes, Ends}
 use Rattle.nullcheck_lsp_top.specs.declared.status.Status.{Status}
 use Rattle.nullcheck_lsp_top.specs.declared.status.Status.TheVariants.{Done, Ended, ReadFault, WriteFault, OutOfMemory, Usage}
 use Rattle.jn_cli.specs.declared.server.Setup.{Setup}
-use Rattle.nullcheck_lsp_top.specs.Hearing.{Hears, HearsAll, IsMessageOf, StartsFor, framed}
+use Rattle.nullcheck_lsp_top.specs.Hearing.{Hears, HearsAll, IsMessageOf, IsTask, StartsBy, begun, framed}
 use Rattle.nullcheck_lsp_top.specs.Looking.{Outside, new_client}
 use Rattle.jn_cli.specs.Server.{setup_of}
 
@@ -94,15 +95,8 @@ module _ (setup : Setup) (held : Option Holding) (from to : Channels) (old new :
   abbrev pub IsCut : List Frame → List ℕ → Client → Type 0
   IsCut frames pending client = Unit {0}
 
-  -- one frame more was read, for which folders and files were asked
-  pub record StartsOne (mid : Outside) (frames : List Frame) (client : Client) : Type 0 where
-    pub frame : Frame
-    pub left : List ℕ
-    pub gives : Gives from.given to.given (frames ++ frame ∷ []) left
-    pub starts : StartsFor held mid new client frame
-
-  -- the first frames of the input were taken, and their replies were written; folders and files were read for them, and for one more at most
-  pub record AnsweredFirst : Type 0 where
+  -- the first frames of the input were taken; folders and files were read for them
+  pub record First : Type 0 where
     pub heard : List ℕ
     pub grows : Grows heard to.given
     pub mid : Outside
@@ -111,14 +105,38 @@ module _ (setup : Setup) (held : Option Holding) (from to : Channels) (old new :
     pub replies : List Reply
     pub client : Client
     pub served : Served setup.infer held from.given heard old mid frames pending replies client
-    pub starts : (new ≡ mid) ⊎ StartsOne mid frames client
-    pub taken : Appends from.written to.written (framed setup.address replies)
+
+  -- their replies were written, and nothing else was asked or written
+  abbrev pub IsStill : First → Type 0
+  IsStill first = (new ≡ first.mid) × Appends from.written to.written (framed setup.address first.replies)
+
+  -- one frame more was read; after their replies what is sent before its message is worked on was written, so much of it
+  pub record BeginsOne (Took : Option (List ℕ) → Option (List ℕ) → List ℕ → Type 0) (first : First) : Type 0 where
+    pub frame : Frame
+    pub left : List ℕ
+    pub gives : Gives from.given to.given (first.frames ++ frame ∷ []) left
+    pub message : Message
+    pub is : IsMessageOf frame message
+    pub taken : Took from.written to.written (framed setup.address (first.replies ++ begun first.client message))
+
+  -- and folders and files were read for it, so far as memory was found
+  abbrev pub StartsOne : First → Type 0
+  StartsOne first = (one : BeginsOne Appends first) × ((new ≡ first.mid) ⊎ StartsBy held first.mid new first.client one.message)
+
+  -- the first frames of the input were taken, and their replies were written; folders and files were read for them, and for one more at most,
+  -- once what is sent before was written
+  abbrev pub AnsweredFirst : Type 0
+  AnsweredFirst = (first : First) × (IsStill first ⊎ StartsOne first)
+
+  -- they were, and of what is sent before one more is worked on a prefix was written; for that one nothing was asked
+  abbrev pub BegunFirst : Type 0
+  BegunFirst = (first : First) × BeginsOne AppendsPrefix first × (new ≡ first.mid)
 
   abbrev pub Answers : Status → Type 0
   Answers Done = Answered Appends IsDone × IsHeardWhole from to × IsWrittenWhole from to
   Answers Ended = Answered Appends IsEnded × IsHeardWhole from to × IsWrittenWhole from to
   Answers ReadFault = Answered Appends IsAllRead × Rose from.hears to.hears × IsWrittenWhole from to
-  Answers WriteFault = Answered AppendsPrefix IsCut × IsHeardWhole from to × Rose from.writes to.writes
+  Answers WriteFault = (Answered AppendsPrefix IsCut ⊎ BegunFirst) × IsHeardWhole from to × Rose from.writes to.writes
   Answers OutOfMemory = AnsweredFirst × IsHeardWhole from to × IsWrittenWhole from to
   Answers Usage = ⊥
 
@@ -155,12 +173,17 @@ AnswersWords held from to old new words status = AnswersBy (setup_of words) held
 
 -- ---- one frame
 
--- the bytes are the written replies to the frame
-pub record IsAnswer (address : Option (List ℕ)) (held : Option Holding) (old new : Outside) (client : Client) (frame : Frame) (after : Client) (bytes : List ℕ) : Type 0 where
+-- the frame's message, and what is written before it is worked on
+pub record IsOpening (address : Option (List ℕ)) (client : Client) (frame : Frame) (opening : Opening) : Type 0 where
   pub message : Message
   pub is : IsMessageOf frame message
+  pub task : IsTask client message opening.task
+  pub bytes : opening.bytes.items ≡ framed address (begun client message)
+
+-- the bytes are the written replies to a message behind those that are written before it is worked on
+pub record IsAnswer (address : Option (List ℕ)) (held : Option Holding) (old new : Outside) (client : Client) (message : Message) (after : Client) (bytes : List ℕ) : Type 0 where
   pub replies : List Reply
-  pub hears : Hears held old new client message replies after
+  pub hears : Hears held old new client message (begun client message ++ replies) after
   pub are : bytes ≡ framed address replies
 
 -- how a server in this phase goes on
@@ -180,11 +203,21 @@ module _ (address : Option (List ℕ)) (held : Option Holding) (from to : Option
     pub hears : Hears held old new client message replies after
     pub taken : Took from to (framed address replies)
 
+  -- what is sent before its message is worked on was written, so much of it
+  pub record Begins (Took : Option (List ℕ) → Option (List ℕ) → List ℕ → Type 0) : Type 0 where
+    pub message : Message
+    pub is : IsMessageOf frame message
+    pub taken : Took from to (framed address (begun client message))
+
+  -- and folders and files were read for it, so far as memory was found
+  abbrev pub Starts : Type 0
+  Starts = (one : Begins Appends) × ((new ≡ old) ⊎ StartsBy held old new client one.message)
+
   abbrev pub EndsBy : Status → Type 0
   EndsBy Done = Takes Appends × (after.server.phase ≡ Exited true) × (now ≡ before)
   EndsBy Ended = Takes Appends × (after.server.phase ≡ Exited false) × (now ≡ before)
-  EndsBy WriteFault = Takes AppendsPrefix × Rose before now
-  EndsBy OutOfMemory = ((new ≡ old) ⊎ StartsFor held old new client frame) × (to ≡ from) × (now ≡ before)
+  EndsBy WriteFault = (Takes AppendsPrefix ⊎ (Begins AppendsPrefix × (new ≡ old))) × Rose before now
+  EndsBy OutOfMemory = (((to ≡ from) × (new ≡ old)) ⊎ Starts) × (now ≡ before)
   EndsBy ReadFault = ⊥
   EndsBy Usage = ⊥
 

@@ -18,7 +18,10 @@ use Rattle.jn_lsp.specs.declared.phase.Phase.TheVariants.{Waiting, Serving, Shut
 use Rattle.jn_lsp.specs.Requests.{ids_answered, ids_asked}
 use Rattle.jn_lsp.specs.Serving.{Takes, wants_folder}
 use Rattle.nullcheck_lsp_top.specs.declared.client.Client.{Client}
+use Rattle.nullcheck_lsp_top.specs.declared.client.Progress.{Progress}
 use Rattle.nullcheck_lsp_top.specs.declared.client.Root.{Root}
+use Rattle.nullcheck_lsp_top.specs.declared.messages.Task.{Task}
+use Rattle.nullcheck_lsp_top.specs.Announcing.{able_behind, announces, begins, ends, next_behind, progress_with}
 use Rattle.nullcheck_lsp_top.specs.Looking.{IsFound, Outside, StartsWhere, Traces, TracesFirst, root_or, told_root}
 use Rattle.nullcheck_lsp_top.specs.Placing.{foreign_in, notices, placed}
 use Rattle.nullcheck_lsp_top.specs.Reading.{shows}
@@ -48,6 +51,7 @@ pub record Looks (held : Option Holding) (old new : Outside) (before after : Cli
   pub takes : Takes before.server (Folder files) news after.server
   pub root : after.root ≡ before.root
   pub said : after.said ≡ before.said
+  pub progress : after.progress ≡ before.progress
   pub all : replies ≡ shows before.shown after.shown ++ news
 
 abbrev pub LooksWhere : Bool → Option Holding → Outside → Outside → Client → Client → List Reply → Type 0
@@ -70,12 +74,29 @@ told_by client message = told_root client.server.phase client.root message
 abbrev pub foreign : Client → Message → Option (List ℕ)
 foreign client message = foreign_in client.server.phase client.root (documents_of client) message
 
+-- the check at the message is announced
+abbrev pub announced : Client → Message → Bool
+announced client message = announces client.server.phase client.server.workspace client.progress (taken_as client message)
+
+-- what is sent before the message is worked on
+abbrev pub begun : Client → Message → List Reply
+begun client message = begins (announced client message) client.progress.next
+
+-- what is sent after that
+abbrev pub ended : Client → Message → List Reply
+ended client message = ends (announced client message) client.progress.next
+
+-- what the client is told of checks from then on
+abbrev pub progress_behind : Client → Message → Progress
+progress_behind client message = progress_with (able_behind client.server.phase client.progress.able message) (next_behind (announced client message) client.progress.next)
+
 -- what is sent before the message is answered
 abbrev pub noticed : Client → Message → List Reply
 noticed client message = notices client.server.phase client.root (documents_of client) client.said message
 
 -- where the message says where the files are, the folders are asked where they really are, and that is kept; the server takes the message as far as
--- it is about the workspace, and where files are to be read after it, those
+-- it is about the workspace, and where files are to be read after it, those; where it is announced, this is said before all else, and at last that
+-- it ended
 pub record Hears (held : Option Holding) (old new : Outside) (before : Client) (message : Message) (replies : List Reply) (after : Client) : Type 0 where
   pub first : List Reply
   pub more : List Reply
@@ -87,8 +108,19 @@ pub record Hears (held : Option Holding) (old new : Outside) (before : Client) (
   pub root : mid.root ≡ root_or told before.root
   pub shown : mid.shown ≡ before.shown
   pub said : mid.said ≡ (before.said || is_some (foreign before message))
+  pub progress : mid.progress ≡ progress_behind before message
   pub behind : LooksWhere (looks before.server.phase (taken_as before message)) held out new mid after more
-  pub all : replies ≡ noticed before message ++ (first ++ more)
+  pub all : replies ≡ begun before message ++ (noticed before message ++ ((first ++ more) ++ ended before message))
+
+-- what is known of a message before it is worked on
+pub record IsTask (client : Client) (message : Message) (task : Task) : Type 0 where
+  pub taken : task.message ≡ taken_as client message
+  pub told : task.told ≡ told_by client message
+  pub looks : task.looks ≡ looks client.server.phase (taken_as client message)
+  pub notices : task.notices.items ≡ noticed client message
+  pub foreign : task.foreign ≡ is_some (foreign client message)
+  pub announced : task.announced ≡ announced client message
+  pub progress : task.progress ≡ progress_behind client message
 
 -- what was asked of folders and files is what the message asks for, or the first of that
 abbrev pub StartsBy : Option Holding → Outside → Outside → Client → Message → Type 0
@@ -98,10 +130,6 @@ StartsBy held old new before message =
     ⊎ TracesFirst (told_by before message) old new
 
 -- ---- frames
-
--- so it is of the message that a frame is
-abbrev pub StartsFor : Option Holding → Outside → Outside → Client → Frame → Type 0
-StartsFor held old new before frame = (message : Message) × IsMessageOf frame message × StartsBy held old new before message
 
 -- the replies as they are written, each in a frame, with links to the document of the codes where its address is given
 abbrev pub written : Option (List ℕ) → Reply → List ℕ

@@ -1,5 +1,6 @@
 pub mod Reading
 pub mod Placing
+pub mod Announcing
 pub mod Looking
 pub mod Hearing
 pub mod Answer

@@ -17,6 +17,7 @@ use Rattle.jn_lsp.specs.Serving.{new_server}
 use Rattle.nullcheck_lsp_top.specs.declared.client.Client.{Client}
 use Rattle.nullcheck_lsp_top.specs.declared.client.Home.{Home}
 use Rattle.nullcheck_lsp_top.specs.declared.client.Root.{Root}
+use Rattle.nullcheck_lsp_top.specs.Announcing.{progress_with}
 use Rattle.nullcheck_lsp_top.specs.Placing.{files_named, named_path, named_paths}
 use Rattle.nullcheck_lsp_top.specs.Reading.{AreTaken, ReadsFirst, is_many, names_taken, source, warnings_of}
 
@@ -35,11 +36,11 @@ no_folders = record { paths = []; watched = false }
 
 -- a client that didn't speak yet, of a server that infers these members where it chooses none
 abbrev pub new_client : Infer → Client
-new_client infer = record { server = new_server infer; root = root_of no_folders [] []; shown = []; said = false }
+new_client infer = record { server = new_server infer; root = root_of no_folders [] []; shown = []; said = false; progress = progress_with false 1 }
 
 -- `initialize` says where the files are
 abbrev pub root_in : Message → Option Root
-root_in (Initialize id folders infer files exclude markup encoding) = Some (root_of folders files exclude)
+root_in (Initialize id folders infer files exclude markup encoding progress) = Some (root_of folders files exclude)
 root_in Initialized = None
 root_in (DidOpen name version text) = None
 root_in (DidChange name version changes) = None

@@ -105,7 +105,7 @@ or_ignored (Some m) = m
 
 -- a message as the server takes it: documents by the names of the workspace's files, and nothing of others
 abbrev pub placed : Root → List SourceFile → Message → Message
-placed root documents (Initialize id folders infer files exclude markup encoding) = Initialize id folders infer files exclude markup encoding
+placed root documents (Initialize id folders infer files exclude markup encoding progress) = Initialize id folders infer files exclude markup encoding progress
 placed root documents Initialized = Initialized
 placed root documents (DidOpen name version text) = or_ignored (option_map (λ n. DidOpen n version text) (placed_name root documents name))
 placed root documents (DidChange name version changes) = or_ignored (option_map (λ n. DidChange n version changes) (placed_name root documents name))

@@ -33,14 +33,24 @@ pub struct Root {
     pub left: Seq<Home>,
 }
 
-/// A client: the server that it speaks to, where its files are, the warnings of the last reading of them, and whether it was said that
-/// documents which aren't of the workspace aren't checked.
+/// What a client is told of checks that go on.
+#[derive(Clone, Copy, Debug, PartialEq, Eq)]
+pub struct Progress {
+    /// Whether it shows that they do.
+    pub able: bool,
+    /// The number of the next check that is announced to it.
+    pub next: u32,
+}
+
+/// A client: the server that it speaks to, where its files are, the warnings of the last reading of them, whether it was said that documents
+/// which aren't of the workspace aren't checked, and what it is told of checks that go on.
 #[derive(Drop)]
 pub struct Client {
     pub server: Server,
     pub root: Root,
     pub shown: Seq<Text>,
     pub said: bool,
+    pub progress: Progress,
 }
 
 impl Client {
@@ -59,6 +69,10 @@ impl Client {
             },
             shown: Seq::new(alloc),
             said: false,
+            progress: Progress {
+                able: false,
+                next: 1,
+            },
         }
     }
 }

@@ -4,15 +4,13 @@ ghost use Rattle.jn_folder.specs.Listing.{with_real};
 ghost use Rattle.jn_folder.specs.Walking.{BeginsWalk};
 ghost use Rattle.nullcheck_lsp_top.specs.Looking as spec;
 
-use crate::client::{Home, Root, told_root};
+use crate::client::{Home, Root};
 use crate::placing::files_named;
 use crate::texts::{is_many, take_files};
 use crate::warning::warnings_of;
 use jn_base::{OutOfMemory, Seq, Text};
 use jn_folder::{Folder, Walked, order, walk};
 use jn_front::SourceFile;
-use jn_lsp::Phase;
-use jn_lsp_text::Message;
 use jn_outside::Files;
 use std::alloc::{AllocError, Global};
 
@@ -196,7 +194,8 @@ fn traced_root<D: Folder>(alloc: Global, root: Root, folder: &mut D) -> Result<R
     }
 }
 
-fn traced_where<D: Folder>(
+/// Where the files are, where that is told, with what the folders say of where they really are.
+pub(crate) fn traced_where<D: Folder>(
     alloc: Global,
     told: Option<Root>,
     folder: &mut D,
@@ -215,26 +214,6 @@ fn traced_where<D: Folder>(
             Err(_) => Err(OutOfMemory),
         },
     }
-}
-
-/// Where the files are, where a message says so in this phase, with what the folders say of where they really are.
-pub(crate) fn traced<D: Folder>(
-    alloc: Global,
-    phase: Phase,
-    root: &Root,
-    message: &Message,
-    folder: &mut D,
-) -> Result<Option<Root>, OutOfMemory>
-    ensures traces { IfOk result (λ made. spec.AreTraced (spec.told_root phase root.now message.now) made
-        (spec.listing (D.told folder.old) (D.faults folder.old))
-        (spec.listing (D.told folder.new) (D.faults folder.new))) }
-    ensures first { spec.AreTracedFirst (spec.told_root phase root.now message.now)
-        (spec.listing (D.told folder.old) (D.faults folder.old))
-        (spec.listing (D.told folder.new) (D.faults folder.new)) }
-{
-    let told = told_root(alloc, phase, root, message)?;
-    let made = traced_where(alloc, told, folder)?;
-    Ok(made)
 }
 
 /// The files of a workspace, and warnings of those that aren't there.

@@ -1,12 +1,14 @@
 //! The loop of a server.
-ghost use Rattle.std.specs.Prelude.{◌≡◌, ◌⊎◌, [], IfOk};
+ghost use Rattle.std.specs.Prelude.{◌≡◌, [], IfOk};
+ghost use Rattle.jn_lsp_text.specs.declared.message.Message.{Message as MessageOf};
 ghost use Rattle.nullcheck_lsp_top.specs.Answer.{Answers, AsksInTime, IsHeard, channels};
 ghost use Rattle.nullcheck_lsp_top.specs.Answer as spec;
-ghost use Rattle.nullcheck_lsp_top.specs.Hearing.{StartsFor};
+ghost use Rattle.nullcheck_lsp_top.specs.Hearing.{IsTask, StartsBy};
 ghost use Rattle.nullcheck_lsp_top.specs.Looking.{new_client, outside};
 
+use crate::announcing::begins;
 use crate::client::Client;
-use crate::messages::{hear, message_of};
+use crate::messages::{Task, hear, message_of, task_of};
 use crate::status::Status;
 use crate::writing::framed;
 use jn_base::{Fail, OutOfMemory, Text};
@@ -28,31 +30,50 @@ pub(crate) enum Heard {
     Ends(Status),
 }
 
-/// The bytes that are written in answer to a frame.
+/// What is known of a frame's message before it is worked on, and the bytes that are written before that.
+#[derive(Drop)]
+struct Opening {
+    task: Task,
+    bytes: Vec<u8>,
+}
+
+fn open(
+    alloc: Global,
+    address: &Option<Text>,
+    client: &Client,
+    frame: &Frame,
+) -> Result<Opening, OutOfMemory>
+    ensures { IfOk result (spec.IsOpening address.now client.now frame.now) }
+{
+    let message = message_of(alloc, frame)?;
+    let task = task_of(alloc, client, message)?;
+    let begun = begins(alloc, task.announced, client.progress.next)?;
+    let bytes = framed(alloc, address, &begun)?;
+    Ok(Opening { task, bytes })
+}
+
+/// The bytes that are written in answer to a message, after those that are written before it is worked on.
 fn answer<R: Threads + Sync, F: Files, D: Folder, G: Gate + Sync>(
     rt: &R,
     gate: &G,
     alloc: Global,
     address: &Option<Text>,
     client: &mut Client,
-    frame: &Frame,
+    task: Task,
     files: &mut F,
     folder: &mut D,
 ) -> Result<Vec<u8>, OutOfMemory>
     ensures held { F.held files.new ≡ F.held files.old }
-    ensures answers { IfOk result (λ bytes. spec.IsAnswer address.now (F.held files.old)
+    ensures answers { IfOk result (λ bytes. (message : MessageOf) → IsTask client.old message task → spec.IsAnswer address.now (F.held files.old)
         (outside (D.told folder.old) (D.faults folder.old) (F.gave files.old) (F.faults files.old))
         (outside (D.told folder.new) (D.faults folder.new) (F.gave files.new) (F.faults files.new))
-        client.old frame.now client.new bytes.items) }
-    ensures starts { (outside (D.told folder.new) (D.faults folder.new) (F.gave files.new) (F.faults files.new)
-        ≡ outside (D.told folder.old) (D.faults folder.old) (F.gave files.old) (F.faults files.old))
-        ⊎ StartsFor (F.held files.old)
+        client.old message client.new bytes.items) }
+    ensures starts { (message : MessageOf) → IsTask client.old message task → StartsBy (F.held files.old)
         (outside (D.told folder.old) (D.faults folder.old) (F.gave files.old) (F.faults files.old))
         (outside (D.told folder.new) (D.faults folder.new) (F.gave files.new) (F.faults files.new))
-        client.old frame.now }
+        client.old message }
 {
-    let message = message_of(alloc, frame)?;
-    let replies = hear(rt, gate, alloc, client, message, files, folder)?;
+    let replies = hear(rt, gate, alloc, client, task, files, folder)?;
     framed(alloc, address, &replies)
 }
 
@@ -67,7 +88,7 @@ fn goes_on(phase: Phase) -> Heard
     }
 }
 
-/// Takes a frame, and writes what is replied to it.
+/// Takes a frame, and writes what is replied to it: where its check is announced, what is said before that is written before anything is read for it.
 fn take_frame<R: Threads + Sync, F: Files, D: Folder, K: Sink, G: Gate + Sync>(
     rt: &R,
     gate: &G,
@@ -86,16 +107,16 @@ fn take_frame<R: Threads + Sync, F: Files, D: Folder, K: Sink, G: Gate + Sync>(
         (outside (D.told folder.new) (D.faults folder.new) (F.gave files.new) (F.faults files.new))
         client.old frame.now client.new result }
 {
-    let Ok(bytes) = answer(
-        rt,
-        gate,
-        alloc,
-        &setup.address,
-        client,
-        frame,
-        files,
-        folder,
-    ) else {
+    let address = &setup.address;
+    let Ok(opening) = open(alloc, address, client, frame) else {
+        return Heard::Ends(Status::OutOfMemory);
+    };
+    let Opening { task, bytes: begun } = opening;
+    match write_whole(out, &begun) {
+        Ok(()) => {}
+        Err(_) => return Heard::Ends(Status::WriteFault),
+    }
+    let Ok(bytes) = answer(rt, gate, alloc, address, client, task, files, folder) else {
         return Heard::Ends(Status::OutOfMemory);
     };
     match write_whole(out, &bytes) {

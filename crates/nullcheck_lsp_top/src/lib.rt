@@ -4,6 +4,7 @@
 //! status means.
 #![tactic(auto)]
 
+mod announcing;
 mod client;
 mod finding;
 mod frames;

@@ -1,0 +1,39 @@
+-- What is known of a message before it is worked on.
+use Rattle.std.proofs.Common.{◌≡◌, ℕ, Bool, List, Option, sym, ap, ◌∙◌, subst}
+use Rattle.std.specs.Prelude.{is_some}
+use Rattle.jn_front.specs.declared.source.SourceFile.{SourceFile}
+use Rattle.jn_lsp.specs.declared.documents.Workspace.{Workspace}
+use Rattle.jn_lsp.specs.declared.phase.Phase.{Phase}
+use Rattle.jn_lsp_text.specs.declared.message.Message.{Message}
+use Rattle.nullcheck_lsp_top.specs.declared.client.Client.{Client}
+use Rattle.nullcheck_lsp_top.specs.declared.client.Root.{Root}
+use Rattle.nullcheck_lsp_top.specs.declared.messages.Task.{Task}
+use Rattle.nullcheck_lsp_top.specs.Announcing.{able_behind, announces, next_behind, progress_with}
+use Rattle.nullcheck_lsp_top.specs.Hearing.{IsTask, announced, looks, taken_as}
+use Rattle.nullcheck_lsp_top.specs.Looking.{told_root}
+use Rattle.nullcheck_lsp_top.specs.Placing.{foreign_in, notices, placed}
+
+-- by the phase and the workspace of the server
+abbrev IsTaskBy : Phase → Workspace → Client → Message → Task → Type 0
+IsTaskBy phase workspace client message task =
+    (task.told ≡ told_root phase client.root message)
+    × (task.message ≡ placed client.root workspace.documents message)
+    × (task.looks ≡ looks phase task.message)
+    × (task.notices.items ≡ notices phase client.root workspace.documents client.said message)
+    × (task.foreign ≡ is_some (foreign_in phase client.root workspace.documents message))
+    × (task.announced ≡ announces phase workspace client.progress task.message)
+    × (task.progress ≡ progress_with (able_behind phase client.progress.able message) (next_behind task.announced client.progress.next))
+
+pub task_from : (phase : Phase) (workspace : Workspace) (client : Client) (message : Message) (task : Task) → phase ≡ client.server.phase → workspace ≡ client.server.workspace → IsTaskBy phase workspace client message task → IsTask client message task
+task_from phase workspace client message task e f by =
+    let (told, taken, looks_, notices_, foreign_, announced_, progress_) = subst (λ p. IsTaskBy p client.server.workspace client message task) e (subst (λ w. IsTaskBy phase w client message task) f by) in
+    let is_announced : task.announced ≡ announced client message = announced_ ∙ ap (announces client.server.phase client.server.workspace client.progress) taken in
+    record {
+      taken = taken;
+      told = told;
+      looks = looks_ ∙ ap (looks client.server.phase) taken;
+      notices = notices_;
+      foreign = foreign_;
+      announced = is_announced;
+      progress = progress_ ∙ ap (λ b. progress_with (able_behind client.server.phase client.progress.able message) (next_behind b client.progress.next)) is_announced;
+    }
