@@ -581,7 +581,6 @@ fn is_seen_same(placed: bool, one: &PointKind, other: &PointKind) -> bool
 }
 
 /// Whether points do the same, but for the numbers of strings.
-#[tactic(auto, using(crate::proofs::Placing::placed_same))]
 pub(crate) fn same_kind(one: &PointKind, other: &PointKind) -> bool
     ensures { (result ≡ true) ↔ (bare_kind one.now ≡ bare_kind other.now) }
 {
