@@ -62,41 +62,35 @@ counts_short T E before now fail is counts = subst (λ f. Counts {T = T} before 
 
 -- ---- a frame
 
-module _ (address : Option (List ℕ)) (held : Option Holding) (from mid to : Option (List ℕ)) (before now : ℕ) (old new : Outside) (client : Client) (frame : Frame) (after : Client) (message : Message) (is : IsMessageOf frame message) where
-  Heard_ : Heard → Type 0
-  Heard_ result = IsHeard address held from to before now old new client frame after result
-
-  Taken_ : (Option (List ℕ) → Option (List ℕ) → List ℕ → Type 0) → Type 0
-  Taken_ Took = Takes address held from to before now old new client frame after Took
-
+module _ (address : Option (List ℕ)) (held : Option Holding) (from mid to : Option (List ℕ)) (before now : ℕ) (old new : Outside) (client : Client) (frame : Frame) (after : Client) (message : Message) (is : IsMessageOf frame message) (sent : List ℕ) (sent_is : sent ≡ framed address (begun client message)) where
   -- memory wasn't found for the answer to its message
-  pub heard_short : Appends from to (framed address (begun client message)) → (new ≡ old) ⊎ StartsBy held old new client message → now ≡ before → Heard_ (Ends OutOfMemory)
-  heard_short took starts same = (inr (record { message = message; is = is; taken = took }, starts), same)
+  pub heard_short : Appends from to sent → (new ≡ old) ⊎ StartsBy held old new client message → now ≡ before → IsHeard address held from to before now old new client frame after (Ends OutOfMemory)
+  heard_short took starts same = (inr (record { message = message; is = is; taken = subst (Appends from to) sent_is took }, starts), same)
 
   -- of what is sent before its message is worked on a prefix was written
-  pub heard_unbegun : AppendsPrefix from to (framed address (begun client message)) → new ≡ old → Rose before now → Heard_ (Ends WriteFault)
-  heard_unbegun took same rose = (inr (record { message = message; is = is; taken = took }, same), rose)
+  pub heard_unbegun : AppendsPrefix from to sent → new ≡ old → Rose before now → IsHeard address held from to before now old new client frame after (Ends WriteFault)
+  heard_unbegun took same rose = (inr (record { message = message; is = is; taken = subst (AppendsPrefix from to) sent_is took }, same), rose)
 
   -- that was written, and then so much of these bytes
-  module _ (bytes : List ℕ) (took : Appends from mid (framed address (begun client message))) (a : IsAnswer address held old new client message after bytes) where
-    all : framed address (begun client message) ++ bytes ≡ framed address (begun client message ++ a.replies)
-    all = ap (λ (b : List ℕ). framed address (begun client message) ++ b) a.are ∙ sym (framed_both address (begun client message) a.replies)
+  module _ (bytes : List ℕ) (took : Appends from mid sent) (a : IsAnswer address held old new client message after bytes) where
+    all_written : sent ++ bytes ≡ framed address (begun client message ++ a.replies)
+    all_written = ap (λ (b : List ℕ). b ++ bytes) sent_is ∙ ap (λ (b : List ℕ). framed address (begun client message) ++ b) a.are ∙ sym (framed_both address (begun client message) a.replies)
 
-    takes_by : (Took : Option (List ℕ) → Option (List ℕ) → List ℕ → Type 0) → Took from to (framed address (begun client message) ++ bytes) → Taken_ Took
-    takes_by Took wrote = record { message = message; is = is; replies = begun client message ++ a.replies; hears = a.hears; taken = subst (Took from to) all wrote }
+    takes_by : (Took : Option (List ℕ) → Option (List ℕ) → List ℕ → Type 0) → Took from to (sent ++ bytes) → Takes address held from to before now old new client frame after Took
+    takes_by Took wrote = record { message = message; is = is; replies = begun client message ++ a.replies; hears = a.hears; taken = subst (Took from to) all_written wrote }
 
-    by_phase : (phase : Phase) → after.server.phase ≡ phase → Taken_ Appends → now ≡ before → Heard_ (goes_on phase)
+    by_phase : (phase : Phase) → after.server.phase ≡ phase → Takes address held from to before now old new client frame after Appends → now ≡ before → IsHeard address held from to before now old new client frame after (goes_on phase)
     by_phase Waiting e t same = (t, same)
     by_phase Serving e t same = (t, same)
     by_phase ShutDown e t same = (t, same)
     by_phase (Exited true) e t same = (t, e, same)
     by_phase (Exited false) e t same = (t, e, same)
 
-    pub heard_whole : (phase : Phase) (result : Heard) → Appends mid to bytes → now ≡ before → phase ≡ after.server.phase → result ≡ goes_on phase → Heard_ result
-    heard_whole phase result wrote same e goes = subst Heard_ (sym goes) (by_phase phase (sym e) (takes_by Appends (taken_more from mid to (framed address (begun client message)) bytes took wrote)) same)
+    pub heard_whole : (phase : Phase) (result : Heard) → Appends mid to bytes → now ≡ before → phase ≡ after.server.phase → result ≡ goes_on phase → IsHeard address held from to before now old new client frame after result
+    heard_whole phase result wrote same e goes = subst (λ (r : Heard). IsHeard address held from to before now old new client frame after r) (sym goes) (by_phase phase (sym e) (takes_by Appends (taken_more from mid to sent bytes took wrote)) same)
 
-    pub heard_broken : AppendsPrefix mid to bytes → Rose before now → Heard_ (Ends WriteFault)
-    heard_broken wrote rose = (inl (takes_by AppendsPrefix (prefix_more from mid to (framed address (begun client message)) bytes took wrote)), rose)
+    pub heard_broken : AppendsPrefix mid to bytes → Rose before now → IsHeard address held from to before now old new client frame after (Ends WriteFault)
+    heard_broken wrote rose = (inl (takes_by AppendsPrefix (prefix_more from mid to sent bytes took wrote)), rose)
 
 -- the input failed where no frame was whole
 pub lacks_refused : (T E : Type 0) (Such : List ℕ → Type 0) (gave pending now : List ℕ) (fail : Fail E) (error : E) → fail ≡ Refused error → Lacks {T = T} Such gave pending now (Err fail) → (more : List ℕ) × (now ≡ gave ++ more) × Such (pending ++ more)

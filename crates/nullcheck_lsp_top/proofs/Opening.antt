@@ -13,20 +13,19 @@ use Rattle.nullcheck_lsp_top.specs.Hearing.{IsTask, announced, looks, taken_as}
 use Rattle.nullcheck_lsp_top.specs.Looking.{told_root}
 use Rattle.nullcheck_lsp_top.specs.Placing.{foreign_in, notices, placed}
 
--- by the phase and the workspace of the server
-abbrev IsTaskBy : Phase → Workspace → Client → Message → Task → Type 0
-IsTaskBy phase workspace client message task =
+-- by the phase, the workspace and the documents of the server
+abbrev IsTaskBy : Phase → Workspace → List SourceFile → Client → Message → Task → Type 0
+IsTaskBy phase workspace documents client message task =
     (task.told ≡ told_root phase client.root message)
-    × (task.message ≡ placed client.root workspace.documents message)
+    × (task.message ≡ placed client.root documents message)
     × (task.looks ≡ looks phase task.message)
-    × (task.notices.items ≡ notices phase client.root workspace.documents client.said message)
-    × (task.foreign ≡ is_some (foreign_in phase client.root workspace.documents message))
+    × (task.notices.items ≡ notices phase client.root documents client.said message)
+    × (task.foreign ≡ is_some (foreign_in phase client.root documents message))
     × (task.announced ≡ announces phase workspace client.progress task.message)
     × (task.progress ≡ progress_with (able_behind phase client.progress.able message) (next_behind task.announced client.progress.next))
 
-pub task_from : (phase : Phase) (workspace : Workspace) (client : Client) (message : Message) (task : Task) → phase ≡ client.server.phase → workspace ≡ client.server.workspace → IsTaskBy phase workspace client message task → IsTask client message task
-task_from phase workspace client message task e f by =
-    let (told, taken, looks_, notices_, foreign_, announced_, progress_) = subst (λ p. IsTaskBy p client.server.workspace client message task) e (subst (λ w. IsTaskBy phase w client message task) f by) in
+task_by : (client : Client) (message : Message) (task : Task) → IsTaskBy client.server.phase client.server.workspace client.server.workspace.documents client message task → IsTask client message task
+task_by client message task (told, taken, looks_, notices_, foreign_, announced_, progress_) =
     let is_announced : task.announced ≡ announced client message = announced_ ∙ ap (announces client.server.phase client.server.workspace client.progress) taken in
     record {
       taken = taken;
@@ -37,3 +36,10 @@ task_from phase workspace client message task e f by =
       announced = is_announced;
       progress = progress_ ∙ ap (λ b. progress_with (able_behind client.server.phase client.progress.able message) (next_behind b client.progress.next)) is_announced;
     }
+
+pub task_from : (phase : Phase) (workspace : Workspace) (documents : List SourceFile) (client : Client) (message : Message) (task : Task) → phase ≡ client.server.phase → workspace ≡ client.server.workspace → documents ≡ workspace.documents → IsTaskBy phase workspace documents client message task → IsTask client message task
+task_from phase workspace documents client message task e f g by =
+    task_by client message task
+    (subst (λ p. IsTaskBy p client.server.workspace client.server.workspace.documents client message task) e
+    (subst (λ (w : Workspace). IsTaskBy phase w w.documents client message task) f
+    (subst (λ (ds : List SourceFile). IsTaskBy phase workspace ds client message task) g by)))

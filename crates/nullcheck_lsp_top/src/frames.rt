@@ -74,7 +74,8 @@ fn answer<R: Threads + Sync, F: Files, D: Folder, G: Gate + Sync>(
         client.old message }
 {
     let replies = hear(rt, gate, alloc, client, task, files, folder)?;
-    framed(alloc, address, &replies)
+    let bytes = framed(alloc, address, &replies)?;
+    Ok(bytes)
 }
 
 /// How a server in this phase goes on.
