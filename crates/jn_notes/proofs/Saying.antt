@@ -1,5 +1,5 @@
 -- What is said of items, one more and step by step.
-use Rattle.std.proofs.Common.{◌≡◌, cond, ◌⊎◌, ⊎_elim, ℕ, ◌+◌, ◌-◌, ◌<◌, ◌≤◌, List, [], ◌∷◌, length, take, Option, Some, None, refl, sym, ap, ◌∙◌, subst, arith}
+use Rattle.std.proofs.Common.{◌≡◌, cond, ⊎_elim, ℕ, ◌+◌, ◌-◌, ◌<◌, ◌≤◌, List, [], ◌∷◌, length, take, Option, Some, None, sym, ap, ◌∙◌, subst, arith}
 use Rattle.std.specs.Prelude.{slice_index_or}
 use Rattle.std.proofs.lemmas.List.{take_all}
 use Rattle.jn_points.specs.declared.program.Program.{Program}
@@ -8,7 +8,7 @@ use Rattle.jn_reasons_law.specs.declared.item.Step.{Step}
 use Rattle.jn_chain.specs.declared.chains.Rest.{Rest}
 use Rattle.jn_chain.specs.declared.shown.Told.{Told}
 use Rattle.jn_chain.specs.Keys.{Key, IsEnd, IsPut, kept_of}
-use Rattle.jn_chain.specs.Search.{AreRests, Ground, IsKnownStep, IsPath, IsShortestWay}
+use Rattle.jn_chain.specs.Search.{AreRests, Ground, IsKnownStep, IsPath}
 use Rattle.jn_chain.specs.Told.{told_of}
 use Rattle.jn_chain.proofs.Walks.{no_way, path_less, way_more}
 use Rattle.jn_notes.specs.declared.said.Said.{Said}

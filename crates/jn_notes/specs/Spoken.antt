@@ -1,6 +1,6 @@
 -- The declarations that a row speaks of, whose notes stand before those of its chain: what takes the value, what is overridden, or the fields that a
 -- constructor leaves unassigned.
-use Rattle.std.specs.Prelude.{ℕ, zero, suc, ◌+◌, Bool, false, cond, codes, eqb, not, ◌&&◌, List, [], ◌∷◌, ◌++◌, length, flat_map, Option, Some, None, slice_index_or}
+use Rattle.std.specs.Prelude.{ℕ, ◌+◌, Bool, false, cond, codes, eqb, not, ◌&&◌, List, [], ◌∷◌, ◌++◌, length, flat_map, Option, Some, None, slice_index_or}
 use Rattle.jn_base.specs.declared.code.Code.{Code}
 use Rattle.jn_base.specs.declared.code.Code.TheVariants.{CtorFields}
 use Rattle.jn_base.specs.declared.place.Row.{Row}
