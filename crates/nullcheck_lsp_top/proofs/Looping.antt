@@ -26,8 +26,8 @@ use Rattle.nullcheck_lsp_top.specs.declared.frames.Heard.TheVariants.{Ends}
 use Rattle.nullcheck_lsp_top.specs.declared.status.Status.{Status}
 use Rattle.nullcheck_lsp_top.specs.declared.status.Status.TheVariants.{Done, Ended, ReadFault, WriteFault, OutOfMemory, Usage}
 use Rattle.jn_cli.specs.declared.server.Setup.{Setup}
-use Rattle.nullcheck_lsp_top.specs.Answer.{Answered, AnsweredFirst, Answers, AsksInTime, Begins, BeginsOne, BegunFirst, Channels, EndsBy, First, IsAnswer, IsCut, IsDone, IsEnded, IsHeard, IsInTime, Served, Starts, Takes, goes_on, most_messages}
-use Rattle.nullcheck_lsp_top.specs.Hearing.{Hears, IsMessageOf, StartsBy, begun, framed}
+use Rattle.nullcheck_lsp_top.specs.Answer.{Answered, AnsweredFirst, Answers, AsksInTime, Begins, BeginsOne, BegunFirst, Breaks, Channels, EndsBy, First, IsAnswer, IsCut, IsDone, IsEnded, IsHeard, IsInTime, Served, Starts, Takes, goes_on, most_messages}
+use Rattle.nullcheck_lsp_top.specs.Hearing.{Hears, IsMessageOf, StartsBy, announced, begun, framed}
 use Rattle.nullcheck_lsp_top.specs.Looking.{Outside, new_client}
 use Rattle.nullcheck_lsp_top.proofs.Hearing.{framed_both, hears_more}
 
@@ -68,8 +68,8 @@ module _ (address : Option (List ℕ)) (held : Option Holding) (from mid to : Op
   heard_short took starts same = (inr (record { message = message; is = is; taken = subst (Appends from to) sent_is took }, starts), same)
 
   -- of what is sent before its message is worked on a prefix was written
-  pub heard_unbegun : AppendsPrefix from to sent → new ≡ old → Rose before now → IsHeard address held from to before now old new client frame after (Ends WriteFault)
-  heard_unbegun took same rose = (inr (record { message = message; is = is; taken = subst (AppendsPrefix from to) sent_is took }, same), rose)
+  pub heard_unbegun : AppendsPrefix from to sent → announced client message ≡ true → new ≡ old → Rose before now → IsHeard address held from to before now old new client frame after (Ends WriteFault)
+  heard_unbegun took told same rose = (inr (record { message = message; is = is; taken = subst (AppendsPrefix from to) sent_is took }, told, same), rose)
 
   -- that was written, and then so much of these bytes
   module _ (bytes : List ℕ) (took : Appends from mid sent) (a : IsAnswer address held old new client message after bytes) where
@@ -121,7 +121,7 @@ runs_none setup held at old pending client none new = record {
 
 module _ (setup : Setup) (held : Option Holding) (from mid : Channels) (old out : Outside) (turns : ℕ) (pending : List ℕ) (client : Client) (run : Running setup held from mid old out turns pending client) where
   -- what was read before memory wasn't found, or an output failed
-  first_of : (to : Channels) (new : Outside) → Grows mid.given to.given → First setup held from to old new
+  abbrev first_of : (to : Channels) (new : Outside) → Grows mid.given to.given → First setup held from to old new
   first_of to new grows = record {
     heard = mid.given;
     grows = grows;
@@ -239,7 +239,7 @@ module _ (setup : Setup) (held : Option Holding) (from mid : Channels) (old out 
     gives_one = subst (λ (b : List ℕ). Gives from.given b (run.frames ++ frame ∷ []) left) (sym given) (gives_more from.given mid.given read.given run.frames frame pending left has.0 run.served.gives has.1 has.2)
 
     -- what is sent before its message is worked on was written, so much of it
-    begins_one : (Took : Option (List ℕ) → Option (List ℕ) → List ℕ → Type 0) (b : Begins setup.address held read.written to.written read.writes to.writes out new client frame after Took) → Took from.written to.written (framed setup.address (run.replies ++ begun client b.message)) → BeginsOne setup held from to old new Took (first_of to new grown)
+    abbrev begins_one : (Took : Option (List ℕ) → Option (List ℕ) → List ℕ → Type 0) (b : Begins setup.address held read.written to.written read.writes to.writes out new client frame after Took) → Took from.written to.written (framed setup.address (run.replies ++ begun client b.message)) → BeginsOne setup held from to old new Took (first_of to new grown)
     begins_one Took b taken = record { frame = frame; left = left; gives = gives_one; message = b.message; is = b.is; taken = taken }
 
     -- memory wasn't found for it
@@ -248,9 +248,9 @@ module _ (setup : Setup) (held : Option Holding) (from mid : Channels) (old out 
     short_one (inr (one, starts)) = (first_of to new grown, inr (begins_one Appends one (taken_on (begun client one.message) one.taken), starts))
 
     -- a write of it failed
-    broken_one : Takes setup.address held read.written to.written read.writes to.writes out new client frame after AppendsPrefix ⊎ (Begins setup.address held read.written to.written read.writes to.writes out new client frame after AppendsPrefix × (new ≡ out)) → Answered setup held from to old new AppendsPrefix (IsCut setup held from to old new) ⊎ BegunFirst setup held from to old new
+    broken_one : Takes setup.address held read.written to.written read.writes to.writes out new client frame after AppendsPrefix ⊎ Breaks setup.address held read.written to.written read.writes to.writes out new client frame after → Answered setup held from to old new AppendsPrefix (IsCut setup held from to old new) ⊎ BegunFirst setup held from to old new
     broken_one (inl t) = inl (answered AppendsPrefix (IsCut setup held from to old new) t (prefix_on t.replies t.taken) tt)
-    broken_one (inr (one, none)) = inr (first_of to new grown, begins_one AppendsPrefix one (prefix_on (begun client one.message) one.taken), none)
+    broken_one (inr (one, told, none)) = inr (first_of to new grown, begins_one AppendsPrefix one (prefix_on (begun client one.message) one.taken), told, none)
 
     pub ends_frame : (status : Status) → EndsBy setup.address held read.written to.written read.writes to.writes out new client frame after status → Answers setup held from to old new status
     ends_frame Done (t, phase, same) = (answered Appends (IsDone setup held from to old new) t (taken_on t.replies t.taken) phase, heard_same ∙ hears ∙ run.hears, same ∙ writes ∙ run.writes)

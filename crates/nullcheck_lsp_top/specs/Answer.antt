@@ -20,7 +20,7 @@ use Rattle.nullcheck_lsp_top.specs.declared.frames.Heard.TheVariants.{Goes, Ends
 use Rattle.nullcheck_lsp_top.specs.declared.status.Status.{Status}
 use Rattle.nullcheck_lsp_top.specs.declared.status.Status.TheVariants.{Done, Ended, ReadFault, WriteFault, OutOfMemory, Usage}
 use Rattle.jn_cli.specs.declared.server.Setup.{Setup}
-use Rattle.nullcheck_lsp_top.specs.Hearing.{Hears, HearsAll, IsMessageOf, IsTask, StartsBy, begun, framed}
+use Rattle.nullcheck_lsp_top.specs.Hearing.{Hears, HearsAll, IsMessageOf, IsTask, StartsBy, announced, begun, framed}
 use Rattle.nullcheck_lsp_top.specs.Looking.{Outside, new_client}
 use Rattle.jn_cli.specs.Server.{setup_of}
 
@@ -128,9 +128,9 @@ module _ (setup : Setup) (held : Option Holding) (from to : Channels) (old new :
   abbrev pub AnsweredFirst : Type 0
   AnsweredFirst = (first : First) × (IsStill first ⊎ StartsOne first)
 
-  -- they were, and of what is sent before one more is worked on a prefix was written; for that one nothing was asked
+  -- they were, the check at the message of one more is announced, and of what is sent before it a prefix was written; for that one nothing was asked
   abbrev pub BegunFirst : Type 0
-  BegunFirst = (first : First) × BeginsOne AppendsPrefix first × (new ≡ first.mid)
+  BegunFirst = (first : First) × (one : BeginsOne AppendsPrefix first) × (announced first.client one.message ≡ true) × (new ≡ first.mid)
 
   abbrev pub Answers : Status → Type 0
   Answers Done = Answered Appends IsDone × IsHeardWhole from to × IsWrittenWhole from to
@@ -213,10 +213,14 @@ module _ (address : Option (List ℕ)) (held : Option Holding) (from to : Option
   abbrev pub Starts : Type 0
   Starts = (one : Begins Appends) × ((new ≡ old) ⊎ StartsBy held old new client one.message)
 
+  -- its check is announced, and of what is sent before it a prefix was written; nothing was asked for it
+  abbrev pub Breaks : Type 0
+  Breaks = (one : Begins AppendsPrefix) × (announced client one.message ≡ true) × (new ≡ old)
+
   abbrev pub EndsBy : Status → Type 0
   EndsBy Done = Takes Appends × (after.server.phase ≡ Exited true) × (now ≡ before)
   EndsBy Ended = Takes Appends × (after.server.phase ≡ Exited false) × (now ≡ before)
-  EndsBy WriteFault = (Takes AppendsPrefix ⊎ (Begins AppendsPrefix × (new ≡ old))) × Rose before now
+  EndsBy WriteFault = (Takes AppendsPrefix ⊎ Breaks) × Rose before now
   EndsBy OutOfMemory = (((to ≡ from) × (new ≡ old)) ⊎ Starts) × (now ≡ before)
   EndsBy ReadFault = ⊥
   EndsBy Usage = ⊥

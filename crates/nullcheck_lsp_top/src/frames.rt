@@ -1,5 +1,7 @@
 //! The loop of a server.
-ghost use Rattle.std.specs.Prelude.{◌≡◌, [], IfOk};
+ghost use Rattle.std.specs.Prelude.{◌≡◌, [], IfOk, OnErr, OnOk, false, true};
+ghost use Rattle.jn_outside.specs.Causes.{HasCause};
+ghost use Rattle.jn_outside.specs.Sink.{Appends, AppendsPrefix};
 ghost use Rattle.jn_lsp_text.specs.declared.message.Message.{Message as MessageOf};
 ghost use Rattle.nullcheck_lsp_top.specs.Answer.{Answers, AsksInTime, IsHeard, channels};
 ghost use Rattle.nullcheck_lsp_top.specs.Answer as spec;
@@ -16,7 +18,7 @@ use jn_cli::Setup;
 use jn_folder::Folder;
 use jn_lsp::Phase;
 use jn_lsp_frames::{Frame, FrameReader, Next, Stream};
-use jn_outside::{Files, Sink, write_whole};
+use jn_outside::{Failed, Files, Sink, write_whole};
 use jn_sharing::Gate;
 use std::alloc::Global;
 use std::thread::Threads;
@@ -89,6 +91,21 @@ fn goes_on(phase: Phase) -> Heard
     }
 }
 
+/// Writes what is said before a check where that is announced.
+fn write_begun<K: Sink>(announced: bool, begun: &[u8], out: &mut K) -> Result<(), Failed>
+    requires silent { announced ≡ false → begun.now ≡ [] }
+    ensures ok { OnOk result (Appends (K.written out.old) (K.written out.new) begun.now) }
+    ensures err { OnErr result (AppendsPrefix (K.written out.old) (K.written out.new) begun.now) }
+    ensures told { OnErr result (announced ≡ true) }
+    ensures cause { HasCause (K.faults out.old) (K.faults out.new) result }
+{
+    if announced {
+        write_whole(out, begun)
+    } else {
+        Ok(())
+    }
+}
+
 /// Takes a frame, and writes what is replied to it: where its check is announced, what is said before that is written before anything is read for it.
 fn take_frame<R: Threads + Sync, F: Files, D: Folder, K: Sink, G: Gate + Sync>(
     rt: &R,
@@ -113,7 +130,7 @@ fn take_frame<R: Threads + Sync, F: Files, D: Folder, K: Sink, G: Gate + Sync>(
         return Heard::Ends(Status::OutOfMemory);
     };
     let Opening { task, bytes: begun } = opening;
-    match write_whole(out, &begun) {
+    match write_begun(task.announced, &begun, out) {
         Ok(()) => {}
         Err(_) => return Heard::Ends(Status::WriteFault),
     }
