@@ -1,15 +1,14 @@
 -- What is known of a message before it is worked on.
-use Rattle.std.proofs.Common.{◌≡◌, ℕ, Bool, List, Option, sym, ap, ◌∙◌, subst}
+use Rattle.std.proofs.Common.{◌≡◌, List, ap, ◌∙◌, subst}
 use Rattle.std.specs.Prelude.{is_some}
 use Rattle.jn_front.specs.declared.source.SourceFile.{SourceFile}
 use Rattle.jn_lsp.specs.declared.documents.Workspace.{Workspace}
 use Rattle.jn_lsp.specs.declared.phase.Phase.{Phase}
 use Rattle.jn_lsp_text.specs.declared.message.Message.{Message}
 use Rattle.nullcheck_lsp_top.specs.declared.client.Client.{Client}
-use Rattle.nullcheck_lsp_top.specs.declared.client.Root.{Root}
 use Rattle.nullcheck_lsp_top.specs.declared.messages.Task.{Task}
 use Rattle.nullcheck_lsp_top.specs.Announcing.{able_behind, announces, next_behind, progress_with}
-use Rattle.nullcheck_lsp_top.specs.Hearing.{IsTask, announced, looks, taken_as}
+use Rattle.nullcheck_lsp_top.specs.Hearing.{IsTask, announced, looks}
 use Rattle.nullcheck_lsp_top.specs.Looking.{told_root}
 use Rattle.nullcheck_lsp_top.specs.Placing.{foreign_in, notices, placed}
 

@@ -13,7 +13,7 @@ use Rattle.nullcheck_lsp_top.specs.declared.messages.Task.{Task}
 use Rattle.nullcheck_lsp_top.specs.Hearing.{IsTask, StartsBy, looks, taken_as}
 use Rattle.nullcheck_lsp_top.specs.Looking.{AreNamedBy, BeginsNamed, Listing, Outside, Starts, StartsWhere, Traces, TracesFirst, listing_of, root_or}
 use Rattle.nullcheck_lsp_top.specs.Reading.{AreRead, GivesNext, ReadsFirst, Source, is_many, names_taken, source}
-use Rattle.nullcheck_lsp_top.proofs.Searching.{begins_none, traced_none}
+use Rattle.nullcheck_lsp_top.proofs.Searching.{begins_none}
 
 -- ---- files
 
