@@ -25,7 +25,9 @@ use Rattle.jn_recheck_law.proofs.LeastWords.{words_are_least}
 use Rattle.jn_recheck_law.proofs.SameOutputs.{count_alike, outputs_alike, words_alike}
 use Rattle.jn_system.specs.Ready.{AreTasks}
 use Rattle.jn_system.proofs.TaskSteps.{as_many, is_overrider}
+use Rattle.jn_again.specs.Edits.{AreReady}
 use Rattle.jn_again.specs.Flags.{AreChangedBelow}
+use Rattle.jn_again.proofs.Going.{last_long}
 
 never : true ≡ false → ⊥
 never e = cc
@@ -110,9 +112,17 @@ least_words P s words is packed same =
     let long : length s ≡ length P.slots = quals_long (start_signature P) s is.starts ∙ length-start P in
     (subst (ArePacked words) long packed, subst (λ (n : ℕ). unpacked words n ≡ s) long same)
 
--- the same edit, of programs that are others by an equation
-pub moved_edit : (P Q R S : Program) (before start last : List ℕ) (flags : List Bool) → R ≡ P → S ≡ Q → IsEditOf (inference P) (inference Q) before start last (told flags) → IsEditOf (inference R) (inference S) before start last (told flags)
-moved_edit P Q R S before start last flags r s e = subst (λ (X : Program). IsEditOf (inference X) (inference S) before start last (told flags)) (sym r) (subst (λ (X : Program). IsEditOf (inference P) (inference X) before start last (told flags)) (sym s) e)
+-- systems of programs that are others by an equation are ready to be solved on
+pub is_ready : (P Q R S T : Program) (before start last : List ℕ) (flags : List Bool) → R ≡ P → S ≡ Q → T ≡ P → length flags ≡ task_count P → IsEditOf (inference P) (inference Q) before start last (told flags)
+    → AreReady (inference R) (inference S) (inference T) before start last flags
+is_ready P Q R S T before start last flags r s t long e =
+    let moved : IsEditOf (inference R) (inference S) before start last (told flags) = subst (λ (X : Program). IsEditOf (inference X) (inference S) before start last (told flags)) (sym r) (subst (λ (X : Program). IsEditOf (inference P) (inference X) before start last (told flags)) (sym s) e) in
+    record {
+      edit = moved;
+      reach = ap inference (t ∙ sym r);
+      flags = long ∙ ap task_count (sym r);
+      last_count = last_long (inference R) (inference S) before start last flags moved;
+    }
 
 pub task_list : (P : Program) (own : List (List ℕ)) (list : List Overrider) (b n : ℕ) → IsInferable P → AreOwnFields P own → AreOverriders P list → b ≡ length P.bodies → n ≡ length list → b + n < 2 ^ 32 → AreTasks P own list
 task_list P own list b n can fields are e f few = record {

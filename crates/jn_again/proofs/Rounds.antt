@@ -1,12 +1,12 @@
 -- Bits that may be lost are found until none is new.
-use Rattle.std.proofs.Common.{◌≡◌, ◌⊎◌, inl, inr, ℕ, ◌+◌, ◌<◌, ◌||◌, Bool, true, false, List, length, bit_or, refl, sym, ap, ◌∙◌, subst, arith}
+use Rattle.std.proofs.Common.{◌≡◌, inl, inr, ℕ, ◌+◌, ◌<◌, ◌||◌, Bool, true, false, List, length, bit_or, refl, sym, ◌∙◌, subst, arith}
 use mathlib.Core.Logic.{dite}
 use native.Mathlib.Decide.{ℕ_discrete}
 use Rattle.std.specs.Prelude.{slice_index}
 use Rattle.jn_base.specs.declared.number.WordNo.{WordNo}
 use Rattle.jn_sigtable.specs.System.{IsLeast, System, Within, bits_for}
 use Rattle.jn_sigtable.proofs.Bits.{within_or_r, within_trans}
-use Rattle.jn_resume.specs.Keepable.{AreKeepable, IsBlind, IsGone}
+use Rattle.jn_resume.specs.Keepable.{AreKeepable, IsBlind}
 use Rattle.jn_again.specs.Losing.{AreGone, Follows, Grows, LoseSent, Lost, told}
 use Rattle.jn_again.proofs.Gone.{gone_still, or_grows}
 

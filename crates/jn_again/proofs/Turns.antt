@@ -9,6 +9,7 @@ use Rattle.jn_points.specs.Lookup.{body_at}
 use Rattle.jn_contrib.specs.declared.listed.Overrider.{Overrider}
 use Rattle.jn_recheck_law.specs.Alike.{ActsAlike}
 use Rattle.jn_recheck_law.specs.Reusable.{ActAlike}
+use Rattle.jn_reuse.proofs.Told.{told_acts}
 use Rattle.jn_again.specs.Losing.{told}
 use Rattle.jn_again.specs.Flags.{AreChangedBelow}
 
@@ -55,6 +56,9 @@ one_body P Q b x e f = ((λ t. absurd (never t)), (λ a. absurd (subst (λ (q : 
 
 pub both_bodies : (P Q : Program) (b : ℕ) (x y : Body) (r : Bool) → body_at P b ≡ Some x → body_at Q b ≡ Some y → (r ≡ true) ↔ ActsAlike x y → (not r ≡ false) ↔ ActAlike (body_at P b) (body_at Q b)
 both_bodies P Q b x y r e f h = alike_of (body_at P b) (body_at Q b) x y e f r h
+
+pub known_body : (P Q : Program) (b : ℕ) → body_at P b ≡ body_at Q b → b < length P.bodies → (false ≡ false) ↔ ActAlike (body_at P b) (body_at Q b)
+known_body P Q b e lt = ((λ t. told_acts P Q b lt e), (λ a. refl))
 
 -- flags
 pub flags_none : (P Q : Program) → AreChangedBelow 0 P Q []

@@ -1,11 +1,12 @@
 //! Solving again.
-ghost use Rattle.std.specs.Prelude.{◌≡◌, ◌<◌, ◌≤◌, IfOk, List, ℕ, length};
+ghost use Rattle.std.specs.Prelude.{◌≡◌, ◌<◌, ◌≤◌, IfOk, List, ℕ, length, true};
 ghost use Rattle.jn_contrib.specs.Entries.{AreOverriders};
 ghost use Rattle.jn_inference_law.specs.Solution.{IsLeastSignature};
 ghost use Rattle.jn_recheck_law.specs.Alike.{SameDeclarations};
 ghost use Rattle.jn_tables_law.specs.Inferable.{IsInferable};
 ghost use Rattle.jn_tables_law.specs.Tasks.{task_count};
 ghost use Rattle.jn_inference_law.specs.Inference.{inference};
+ghost use Rattle.jn_again.specs.Flags.{AreSame};
 ghost use Rattle.jn_again.specs.Losing.{told};
 ghost use Rattle.jn_resume.specs.Keepable.{IsEditOf};
 ghost use Rattle.jn_sigtable.specs.System.{least};
@@ -19,7 +20,6 @@ use jn_base::OutOfMemory;
 use jn_contrib::Overrider;
 use jn_env::OwnFields;
 use jn_points::Program;
-use jn_reuse::same_declarations;
 use jn_sharing::Gate;
 use jn_sigs::{Sig, start};
 use jn_system::signature::signature;
@@ -89,7 +89,9 @@ fn solve_edited(
     old_overriders: &[Overrider],
     new: &Program,
     overriders: &[Overrider],
+    known: &[bool],
 ) -> Result<Sig, OutOfMemory>
+    requires known { AreSame old.now new.now known.now }
     requires old { IsInferable old.now }
     requires new { IsInferable new.now }
     requires least { IsLeastSignature old.now sig.now }
@@ -109,7 +111,7 @@ fn solve_edited(
     let old_own = OwnFields::new(alloc, old)?;
     let own = OwnFields::new(alloc, new)?;
     let tasks = old.bodies.len() + old_overriders.len();
-    let changed = changed_tasks(alloc, old, new, tasks)?;
+    let changed = changed_tasks(alloc, old, new, known, tasks)?;
     let words = solve_words(
         alloc,
         &Parts {
@@ -131,9 +133,9 @@ fn solve_edited(
     Ok(found)
 }
 
-/// The least signature of a program, where an earlier one has been solved, and these are its methods that override. Where both declare the same and
-/// have as many bodies, it is found from the earlier one's on one thread; else anew, by so many workers, 1 to 16, each of which enters the gate
-/// when it takes a body.
+/// The least signature of a program, where an earlier one has been solved, and these are its methods that override. Where both are told to declare the same
+/// (`same`) and have as many bodies, it is found from the earlier one's on one thread; else anew, by so many workers, 1 to 16, each of which enters the gate
+/// when it takes a body. The bodies that are flagged (`known`) are the same in both, and aren't compared.
 ///
 /// # Errors
 /// No memory was found, or bodies and methods that override are more than four billion.
@@ -144,9 +146,14 @@ pub fn solve_again<R: Threads + Sync, G: Gate + Sync>(
     names: &Names,
     program: &Program,
     overriders: &[Overrider],
+    same: bool,
+    known: &[bool],
     workers: u32,
     gate: &G,
 ) -> Result<Sig, OutOfMemory>
+    requires same { same ≡ true → SameDeclarations earlier.now.names.now names.now
+        earlier.now.program.now program.now }
+    requires known { AreSame earlier.now.program.now program.now known.now }
     requires old { IsInferable earlier.now.program.now }
     requires least { IsLeastSignature earlier.now.program.now earlier.now.sig.now }
     requires old_list { AreOverriders earlier.now.program.now earlier.now.overriders.now }
@@ -155,8 +162,9 @@ pub fn solve_again<R: Threads + Sync, G: Gate + Sync>(
     requires workers { (0 < workers) × (workers ≤ 16) }
     ensures { IfOk result (λ sig. IsLeastSignature program.now sig) }
 {
+    let _names = names;
     let old = earlier.program;
-    if !same_declarations(earlier.names, old, names, program) {
+    if !same {
         return solve_with(rt, alloc, program, overriders, workers, gate);
     }
     if old.bodies.len() != program.bodies.len() {
@@ -172,5 +180,6 @@ pub fn solve_again<R: Threads + Sync, G: Gate + Sync>(
         earlier.overriders,
         program,
         overriders,
+        known,
     )
 }

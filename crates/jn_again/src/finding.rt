@@ -1,6 +1,6 @@
 //! The bits that may be lost.
 ghost use Rattle.std.specs.Prelude.{◌≡◌, ◌<◌, ℕ, true, length, slice_index, IfOk, OnOk};
-ghost use Rattle.jn_sigtable.specs.System.{IsLeast, bits_for};
+ghost use Rattle.jn_sigtable.specs.System.{bits_for};
 ghost use Rattle.jn_resume.specs.Keepable.{AreKeepable};
 ghost use Rattle.jn_again.specs.Losing.{AreGone, Follows, Grows, LoseSent, Lost, told};
 
@@ -23,10 +23,6 @@ fn lose_sent<C: Constraints, R: Reach>(
     lost: &mut [u64],
 ) -> Result<(), OutOfMemory>
     requires inside { body.0 < (C.describe edit.now.old.now).bodies }
-    requires after { body.0 < (C.describe edit.now.new.now).bodies }
-    requires flags { length edit.now.changed.now ≡ (C.describe edit.now.old.now).bodies }
-    requires start { length edit.now.start.now ≡ (C.describe edit.now.new.now).words }
-    requires last { length edit.now.last.now ≡ (C.describe edit.now.old.now).words }
     ensures grows { OnOk result (Grows lost.old lost.new) }
     ensures sent { OnOk result (told edit.now.changed.now body.0 ≡ true
         → AreGone (length lost.old)
@@ -50,12 +46,7 @@ fn lose_changed<C: Constraints, R: Reach>(
     edit: &Edit<C, R>,
     lost: &mut [u64],
 ) -> Result<(), OutOfMemory>
-    requires bodies { (C.describe edit.now.old.now).bodies
-        ≡ (C.describe edit.now.new.now).bodies }
-    requires flags { length edit.now.changed.now ≡ (C.describe edit.now.old.now).bodies }
-    requires start { length edit.now.start.now ≡ (C.describe edit.now.new.now).words }
-    requires last { length edit.now.last.now ≡ (C.describe edit.now.old.now).words }
-    requires first { LoseSent (C.describe edit.now.old.now) (C.describe edit.now.new.now)
+    requires { LoseSent (C.describe edit.now.old.now) (C.describe edit.now.new.now)
         edit.now.before.now edit.now.start.now edit.now.last.now edit.now.changed.now 0 lost.old }
     ensures { OnOk result (LoseSent (C.describe edit.now.old.now) (C.describe edit.now.new.now)
         edit.now.before.now edit.now.start.now edit.now.last.now edit.now.changed.now
@@ -75,10 +66,7 @@ fn follow<C: Constraints, R: Reach>(
     body: BodyNo,
     lost: &mut [u64],
 ) -> Result<bool, OutOfMemory>
-    requires reach { R.describe edit.now.reach.now ≡ C.describe edit.now.old.now }
     requires inside { body.0 < (C.describe edit.now.old.now).bodies }
-    requires flags { length edit.now.changed.now ≡ (C.describe edit.now.old.now).bodies }
-    requires last { length edit.now.last.now ≡ (C.describe edit.now.old.now).words }
     requires lost { length lost.old ≡ (C.describe edit.now.old.now).words }
     ensures grows { OnOk result (Grows lost.old lost.new) }
     ensures still { IfOk result (λ more. Lost more lost.old lost.new
@@ -106,10 +94,7 @@ fn round<C: Constraints, R: Reach>(
     edit: &Edit<C, R>,
     lost: &mut [u64],
 ) -> Result<bool, OutOfMemory>
-    requires reach { R.describe edit.now.reach.now ≡ C.describe edit.now.old.now }
-    requires flags { length edit.now.changed.now ≡ (C.describe edit.now.old.now).bodies }
-    requires last { length edit.now.last.now ≡ (C.describe edit.now.old.now).words }
-    requires lost { length lost.old ≡ (C.describe edit.now.old.now).words }
+    requires { length lost.old ≡ (C.describe edit.now.old.now).words }
     ensures grows { OnOk result (Grows lost.old lost.new) }
     ensures still { IfOk result (λ more. Lost more lost.old lost.new ((b : ℕ)
         → b < (C.describe edit.now.old.now).bodies
@@ -130,10 +115,7 @@ fn settle<C: Constraints, R: Reach>(
     edit: &Edit<C, R>,
     lost: &mut [u64],
 ) -> Result<bool, OutOfMemory>
-    requires reach { R.describe edit.now.reach.now ≡ C.describe edit.now.old.now }
-    requires flags { length edit.now.changed.now ≡ (C.describe edit.now.old.now).bodies }
-    requires last { length edit.now.last.now ≡ (C.describe edit.now.old.now).words }
-    requires sent { LoseSent (C.describe edit.now.old.now) (C.describe edit.now.new.now)
+    requires { LoseSent (C.describe edit.now.old.now) (C.describe edit.now.new.now)
         edit.now.before.now edit.now.start.now edit.now.last.now edit.now.changed.now
         (C.describe edit.now.old.now).bodies lost.old }
     ensures { IfOk result (λ ended. ended ≡ true → AreKeepable (C.describe edit.now.old.now)
@@ -155,13 +137,7 @@ fn lose_all<C: Constraints, R: Reach>(
     edit: &Edit<C, R>,
     lost: &mut [u64],
 ) -> Result<bool, OutOfMemory>
-    requires reach { R.describe edit.now.reach.now ≡ C.describe edit.now.old.now }
-    requires bodies { (C.describe edit.now.old.now).bodies
-        ≡ (C.describe edit.now.new.now).bodies }
-    requires flags { length edit.now.changed.now ≡ (C.describe edit.now.old.now).bodies }
-    requires start { length edit.now.start.now ≡ (C.describe edit.now.new.now).words }
-    requires last { length edit.now.last.now ≡ (C.describe edit.now.old.now).words }
-    requires first { LoseSent (C.describe edit.now.old.now) (C.describe edit.now.new.now)
+    requires { LoseSent (C.describe edit.now.old.now) (C.describe edit.now.new.now)
         edit.now.before.now edit.now.start.now edit.now.last.now edit.now.changed.now 0 lost.old }
     ensures { IfOk result (λ ended. ended ≡ true → AreKeepable (C.describe edit.now.old.now)
         (C.describe edit.now.new.now) edit.now.before.now edit.now.start.now edit.now.last.now
@@ -192,15 +168,6 @@ pub fn find_lost<C: Constraints, R: Reach>(
     alloc: Global,
     edit: &Edit<C, R>,
 ) -> Result<Vec<u64>, OutOfMemory>
-    requires reach { R.describe edit.now.reach.now ≡ C.describe edit.now.old.now }
-    requires words { (C.describe edit.now.old.now).words ≡ (C.describe edit.now.new.now).words }
-    requires bodies { (C.describe edit.now.old.now).bodies
-        ≡ (C.describe edit.now.new.now).bodies }
-    requires flags { length edit.now.changed.now ≡ (C.describe edit.now.old.now).bodies }
-    requires before { length edit.now.before.now ≡ (C.describe edit.now.old.now).words }
-    requires start { length edit.now.start.now ≡ (C.describe edit.now.new.now).words }
-    requires last { length edit.now.last.now ≡ (C.describe edit.now.old.now).words }
-    requires least { IsLeast (C.describe edit.now.old.now) edit.now.before.now edit.now.last.now }
     ensures count { IfOk result (λ lost. length lost.items ≡ (C.describe edit.now.old.now).words) }
     ensures lost { IfOk result (λ lost. AreKeepable (C.describe edit.now.old.now)
         (C.describe edit.now.new.now) edit.now.before.now edit.now.start.now edit.now.last.now

@@ -3,7 +3,7 @@ ghost use Rattle.std.specs.Prelude.{◌≡◌, ◌<◌, ℕ, length, slice_index
 ghost use Rattle.jn_sigtable.specs.System.{least};
 ghost use Rattle.jn_sigtable.specs.Machine.{dirty_words};
 ghost use Rattle.jn_worklist.specs.Drains.{IsDirtyOrClosed};
-ghost use Rattle.jn_resume.specs.Keepable.{AreKeepable, IsEditOf};
+ghost use Rattle.jn_resume.specs.Keepable.{AreKeepable};
 ghost use Rattle.jn_again.specs.Losing.{told};
 
 use crate::dirty::find_dirty;
@@ -22,11 +22,7 @@ fn dirty_under<C: Constraints, R: Reach>(
     edit: &Edit<C, R>,
     words: &[u64],
 ) -> Result<Vec<u64>, OutOfMemory>
-    requires edit { IsEditOf (C.describe edit.now.old.now) (C.describe edit.now.new.now)
-        edit.now.before.now edit.now.start.now edit.now.last.now (told edit.now.changed.now) }
-    requires reach { R.describe edit.now.reach.now ≡ C.describe edit.now.old.now }
-    requires flags { length edit.now.changed.now ≡ (C.describe edit.now.old.now).bodies }
-    requires words { length words.now ≡ length edit.now.start.now }
+    requires { length words.now ≡ length edit.now.start.now }
     ensures count { IfOk result
         (λ dirty. length dirty.items ≡ dirty_words (C.describe edit.now.new.now)) }
     ensures each { IfOk result (λ dirty. (b : ℕ) → b < (C.describe edit.now.new.now).bodies
@@ -49,10 +45,6 @@ fn solve_without<C: Constraints, R: Reach>(
     edit: &Edit<C, R>,
     lost: &[u64],
 ) -> Result<Vec<u64>, OutOfMemory>
-    requires edit { IsEditOf (C.describe edit.now.old.now) (C.describe edit.now.new.now)
-        edit.now.before.now edit.now.start.now edit.now.last.now (told edit.now.changed.now) }
-    requires reach { R.describe edit.now.reach.now ≡ C.describe edit.now.old.now }
-    requires flags { length edit.now.changed.now ≡ (C.describe edit.now.old.now).bodies }
     requires count { length lost.now ≡ (C.describe edit.now.old.now).words }
     requires lost { AreKeepable (C.describe edit.now.old.now) (C.describe edit.now.new.now)
         edit.now.before.now edit.now.start.now edit.now.last.now (told edit.now.changed.now)
@@ -75,10 +67,6 @@ pub fn solve_on<C: Constraints, R: Reach>(
     alloc: Global,
     edit: &Edit<C, R>,
 ) -> Result<Vec<u64>, OutOfMemory>
-    requires edit { IsEditOf (C.describe edit.now.old.now) (C.describe edit.now.new.now)
-        edit.now.before.now edit.now.start.now edit.now.last.now (told edit.now.changed.now) }
-    requires reach { R.describe edit.now.reach.now ≡ C.describe edit.now.old.now }
-    requires flags { length edit.now.changed.now ≡ (C.describe edit.now.old.now).bodies }
     ensures { IfOk result
         (λ words. words.items ≡ least (C.describe edit.now.new.now) edit.now.start.now) }
 {

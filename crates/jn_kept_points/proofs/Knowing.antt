@@ -1,5 +1,5 @@
 -- Bodies that stayed are those of the new trees at their places, and have no row.
-use Rattle.std.proofs.Common.{◌≡◌, ℕ, zero, suc, true, false, Bool, List, [], ◌∷◌, ◌++◌, length, Some, slice_get, get_or, refl, sym, ap, ◌∙◌, subst, arith, true≢false}
+use Rattle.std.proofs.Common.{◌≡◌, ℕ, zero, suc, true, false, Bool, List, [], ◌∷◌, ◌++◌, length, Option, Some, None, slice_get, get_or, refl, sym, ap, ◌∙◌, subst, arith, true≢false}
 use Rattle.std.proofs.lemmas.Option.{none-some, same_Some}
 use Rattle.jn_base.specs.declared.infer.Infer.{Infer}
 use Rattle.jn_base.specs.declared.place.Row.{Row}
@@ -26,8 +26,9 @@ use Rattle.jn_program.specs.Known.{AreKnown, IsKnown}
 use Rattle.jn_program.specs.Lowered.{IsProgram}
 use Rattle.jn_program.specs.Starts.{AreStarts, IsStart}
 use Rattle.jn_kept_points.specs.declared.typing.KeptTyping.{KeptTyping}
+use Rattle.jn_kept_points.specs.declared.typing.Unchanged.{Unchanged}
 use Rattle.jn_kept_points.specs.Stays.{KnownFrom, Stays}
-use Rattle.jn_kept_points.specs.Typings.{IsTypingOf, SameTrees}
+use Rattle.jn_kept_points.specs.Typings.{IsKeptOf, IsTypingOf, IsUnchangedIn, SameTrees}
 use Rattle.jn_kept_points.proofs.Cutting.{source_of_file}
 
 -- ---- bodies and rows, source by source
@@ -68,6 +69,14 @@ nothing_known T ss = λ b s told e. absurd (true≢false (sym told))
 
 pub nothing_typed : (infer : Infer) (trees : List PlacedFile) (Q : Program) → IsProgram infer trees Q → AreTyped Q []
 nothing_typed infer trees Q q = λ b row told broken. absurd (true≢false (sym told))
+
+-- nor where nothing is flagged and heads aren't told to be alike
+pub nothing_told : (P : Program) (base : Option Program) (unchanged : Unchanged) → unchanged.alike ≡ false → unchanged.bodies.items ≡ [] → IsUnchangedIn P base unchanged
+nothing_told P None unchanged other none = tt
+nothing_told P (Some Q) unchanged other none = (
+  λ told. absurd (true≢false (sym told ∙ other)),
+  λ b told. absurd (true≢false (sym told ∙ ap (λ (l : List Bool). get_or l b false) none)),
+)
 
 -- ---- a body that stayed
 
@@ -120,11 +129,15 @@ module _ (infer : Infer) (before trees : List PlacedFile) (P : Program) (kept : 
       let here : HeadsAlike (inferring infer before) (table (heads trees)) = record { classes = h.classes; fields = h.fields; methods = h.methods } in
       subst (λ (R : Program). HeadsAlike R (table (heads trees))) (sym is.program) here
 
-  heads_of_program : (Q : Program) → Q ≡ inferring infer trees → HeadsAlike Q P
+  -- and the old program and the new one
+  heads_of_program : (Q : Program) → Q ≡ inferring infer trees → HeadsAlike P Q
   heads_of_program Q q =
-      let h = alike_heads (table (heads trees)) (table (heads before)) (sym alike) in
-      let here : HeadsAlike (inferring infer trees) (inferring infer before) = record { classes = h.classes; fields = h.fields; methods = h.methods } in
-      subst (λ (R : Program). HeadsAlike R P) (sym q) (subst (λ (R : Program). HeadsAlike (inferring infer trees) R) (sym is.program) here)
+      let h = heads_of_table in
+      let here : HeadsAlike P (inferring infer trees) = record { classes = h.classes; fields = h.fields; methods = h.methods } in
+      subst (HeadsAlike P) (sym q) here
+
+  heads_of_old : (Q : Program) → Q ≡ inferring infer trees → HeadsAlike Q P
+  heads_of_old Q q = let h = heads_of_program Q q in record { classes = sym h.classes; fields = sym h.fields; methods = sym h.methods }
 
   module _ (same : List Bool) (starts : List Start) (flags : List Bool) (T : Program) (t : T ≡ table (heads trees)) (same_trees : SameTrees before same trees) (are : AreStarts trees starts) (known : KnownFrom P T same kept.starts.items starts flags) where
     found : (b : ℕ) → get_or flags b false ≡ true → SameSource infer before trees same same_trees b
@@ -145,10 +158,22 @@ module _ (infer : Infer) (before trees : List PlacedFile) (P : Program) (kept : 
         subst (λ (z : Source). IsKnown (table (heads trees)) z (slice_get P.bodies b)) (same_Some h.source s (sym h.new ∙ e))
         (subst (IsKnown (table (heads trees)) h.source) (sym (old_body b h.source h.old)) it)
 
-    -- and have no row of base typing
-    pub are_typed : LowersAlike → TypesAlike → NoBaseRows P → (Q : Program) → IsProgram infer trees Q → AreTyped Q flags
-    are_typed bodies types none = λ Q q b row told broken.
+    -- the new program has them at their numbers
+    same_body : LowersAlike → (Q : Program) → Q ≡ inferring infer trees → (b : ℕ) → get_or flags b false ≡ true → body_at P b ≡ body_at Q b
+    same_body bodies Q q b told =
         let h = found b told in
-        let new_body : body_at Q b ≡ Some (body_of_source (table (heads trees)) h.source) = ap (λ (R : Program). body_at R b) q.program ∙ body_of (table (heads trees)) (sources trees) b h.source h.new in
-        let one : body_at Q b ≡ body_at P b = new_body ∙ ap Some (sym (bodies (table (heads before)) (table (heads trees)) h.source alike h.place)) ∙ sym (old_body b h.source h.old) in
-        types Q P b row (heads_of_program Q q.program) one none broken
+        let new_body : body_at Q b ≡ Some (body_of_source (table (heads trees)) h.source) = ap (λ (R : Program). body_at R b) q ∙ body_of (table (heads trees)) (sources trees) b h.source h.new in
+        old_body b h.source h.old ∙ ap Some (bodies (table (heads before)) (table (heads trees)) h.source alike h.place) ∙ sym new_body
+
+    -- and they have no row of base typing
+    pub are_typed : LowersAlike → TypesAlike → NoBaseRows P → (Q : Program) → IsProgram infer trees Q → AreTyped Q flags
+    are_typed bodies types none = λ Q q b row told broken. types Q P b row (heads_of_old Q q.program) (sym (same_body bodies Q q.program b told)) none broken
+
+    -- so what is told of the old program stands in the new one
+    pub stands : LowersAlike → (base : Option Program) (after : Option KeptTyping) (unchanged : Unchanged) → unchanged.bodies.items ≡ flags → IsKeptOf infer trees base after → IsUnchangedIn P base unchanged
+    stands bodies None after unchanged e is_kept = tt
+    stands bodies (Some Q) None unchanged e is_kept = absurd is_kept
+    stands bodies (Some Q) (Some new) unchanged e is_kept = (
+      λ told. heads_of_program Q is_kept.program,
+      λ b told. same_body bodies Q is_kept.program b (ap (λ (l : List Bool). get_or l b false) (sym e) ∙ told),
+    )

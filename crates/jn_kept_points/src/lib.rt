@@ -9,4 +9,7 @@ pub mod alike;
 pub mod known;
 pub mod typing;
 
-pub use typing::{KeptTyping, TypedTrees, find_trees_again, find_trees_anew};
+pub use typing::{
+    FoundAgain, KeptTyping, TypedTrees, Unchanged, find_trees_again, find_trees_anew,
+    nothing_unchanged,
+};

@@ -1,5 +1,5 @@
 //! From trees to their program, or to the rows of the first phase that has any, where an earlier program is kept.
-ghost use Rattle.std.specs.Prelude.{◌≡◌, ◌≤◌, [], IsSome, List, map, IfOk};
+ghost use Rattle.std.specs.Prelude.{◌≡◌, ◌≤◌, [], false, true, IsSome, List, map, IfOk};
 ghost use Rattle.jn_trees.specs.declared.token.Token.{Token as SpecToken};
 ghost use Rattle.jn_points.specs.declared.program.Program.{Program};
 ghost use Rattle.jn_basecheck.specs.Rows.{AreTyped};
@@ -17,7 +17,7 @@ ghost use Rattle.jn_program.specs.Starts.{AreStarts};
 ghost use Rattle.jn_program_law.specs.FileSources.{sources};
 ghost use Rattle.jn_phases.specs.Typing.{IsTyping};
 ghost use Rattle.jn_kept_points.specs.Stays.{KnownFrom};
-ghost use Rattle.jn_kept_points.specs.Typings.{IsAlike, IsKeptOf, IsTypingOf, SameTrees};
+ghost use Rattle.jn_kept_points.specs.Typings.{IsAlike, IsKeptOf, IsTypingOf, IsUnchangedIn, SameTrees};
 
 use crate::alike::same_heads;
 use crate::known::{known_bodies, same_starts};
@@ -56,6 +56,24 @@ pub struct TypedTrees {
     pub typing: Typing,
     /// What is to be kept beside the program; nothing where there is none.
     pub kept: Option<KeptTyping>,
+}
+
+/// What of an earlier program stands in the one that is found.
+#[derive(Drop)]
+pub struct Unchanged {
+    /// The program declares what the earlier one did, but for places and what is written of nullness and initialization.
+    pub alike: bool,
+    /// For each body whether it is the earlier program's of its number; nothing is told of those behind the last.
+    pub bodies: Vec<bool>,
+}
+
+/// What is found of files with trees, and what of the earlier program stands in theirs.
+#[derive(Drop)]
+pub struct FoundAgain {
+    /// What is found, with what is to be kept.
+    pub found: TypedTrees,
+    /// What of the earlier program stands.
+    pub unchanged: Unchanged,
 }
 
 /// What is found, with what is to be kept.
@@ -265,6 +283,41 @@ fn known_of(
     }
 }
 
+/// What is found of files whose types declare what they did, where these bodies are known.
+fn with_known(
+    found: Result<TypedTrees, OutOfMemory>,
+    known: Vec<bool>,
+) -> Result<FoundAgain, OutOfMemory>
+    ensures { IfOk result (λ f. (found ≡ Ok f.found) × (f.unchanged ≡ record { alike = true; bodies = known })) }
+{
+    match found {
+        Err(_) => {
+            drop(known);
+            return Err(OutOfMemory);
+        }
+        Ok(found) => {
+            return Ok(FoundAgain {
+                found,
+                unchanged: Unchanged {
+                    alike: true,
+                    bodies: known,
+                },
+            });
+        }
+    }
+}
+
+/// Of no earlier program anything is told to stand.
+pub fn nothing_unchanged(alloc: Global) -> Unchanged
+    ensures alike { result.alike ≡ false }
+    ensures bodies { result.bodies.items ≡ [] }
+{
+    Unchanged {
+        alike: false,
+        bodies: Vec::new(alloc),
+    }
+}
+
 /// What is found of files whose types declare what they did, but for places and what is written of nullness and initialization.
 fn find_alike<R: Threads + Sync>(
     rt: &R,
@@ -278,7 +331,7 @@ fn find_alike<R: Threads + Sync>(
     same: &[bool],
     base: &BaseTyped,
     kept: &KeptTyping,
-) -> Result<TypedTrees, OutOfMemory>
+) -> Result<FoundAgain, OutOfMemory>
     requires parsed { (tokens : List (List SpecToken))
         × AreParsed (files_of_reads reads.now) names.now tokens (map placed_file trees.now) }
     requires rowless { t_rows (heads_of (map placed_file trees.now)) ≡ [] }
@@ -287,10 +340,12 @@ fn find_alike<R: Threads + Sync>(
     requires earlier { (before : List PlacedFile) × IsTypingOf infer before base.now kept.now
         × SameTrees before same.now (map placed_file trees.now) }
     requires workers { (1 ≤ workers) × (workers ≤ 16) }
-    ensures typing { IfOk result (λ found.
-        IsTyping infer (files_of_reads reads.now) names.now (map placed_file trees.now) found.typing) }
+    ensures typing { IfOk result (λ f.
+        IsTyping infer (files_of_reads reads.now) names.now (map placed_file trees.now) f.found.typing) }
     ensures kept { IfOk result
-        (λ found. IsKeptOf infer (map placed_file trees.now) found.typing.base found.kept) }
+        (λ f. IsKeptOf infer (map placed_file trees.now) f.found.typing.base f.found.kept) }
+    ensures unchanged { IfOk result
+        (λ f. IsUnchangedIn base.now f.found.typing.base f.unchanged) }
 {
     lowering_looks_at_no_other_place();
     base_typing_looks_at_no_place_of_the_class_table();
@@ -315,7 +370,7 @@ fn find_alike<R: Threads + Sync>(
                 return Err(OutOfMemory);
             }
             Ok(known) => {
-                return find_with(
+                let found = find_with(
                     rt,
                     alloc,
                     workers,
@@ -328,6 +383,7 @@ fn find_alike<R: Threads + Sync>(
                     old.program().bodies.as_slice(),
                     known.as_slice(),
                 );
+                return with_known(found, known);
             }
         },
     }
@@ -338,10 +394,11 @@ fn find_alike<R: Threads + Sync>(
 ///
 /// Where the types declare what they did, but for places and what is written of nullness and initialization, the rows T1 to T10 aren't looked for,
 /// the index of members is taken out of `base`, and where each file begins at the numbers at which it began, bodies of files that are told
-/// are copied from it.
+/// are copied from it. So much is told with what is found.
 ///
 /// # Errors
 /// No memory was found.
+#[tactic(auto, using(crate::proofs::Knowing::nothing_told))]
 pub fn find_trees_again<R: Threads + Sync>(
     rt: &R,
     alloc: Global,
@@ -353,23 +410,29 @@ pub fn find_trees_again<R: Threads + Sync>(
     same: &[bool],
     base: &mut BaseTyped,
     kept: &KeptTyping,
-) -> Result<TypedTrees, OutOfMemory>
+) -> Result<FoundAgain, OutOfMemory>
     requires parsed { (tokens : List (List SpecToken))
         × AreParsed (files_of_reads reads.now) names.now tokens (map placed_file trees.now) }
     requires earlier { (before : List PlacedFile) × IsTypingOf infer before base.old kept.now
         × SameTrees before same.now (map placed_file trees.now) }
     requires workers { (1 ≤ workers) × (workers ≤ 16) }
-    ensures typing { IfOk result (λ found.
-        IsTyping infer (files_of_reads reads.now) names.now (map placed_file trees.now) found.typing) }
+    ensures typing { IfOk result (λ f.
+        IsTyping infer (files_of_reads reads.now) names.now (map placed_file trees.now) f.found.typing) }
     ensures kept { IfOk result
-        (λ found. IsKeptOf infer (map placed_file trees.now) found.typing.base found.kept) }
+        (λ f. IsKeptOf infer (map placed_file trees.now) f.found.typing.base f.found.kept) }
+    ensures unchanged { IfOk result
+        (λ f. IsUnchangedIn base.old f.found.typing.base f.unchanged) }
     ensures base { base.new ≡ base.old }
 {
     indexes_serve_alike_programs();
     alike_heads_have_alike_tables();
     let declared = heads(alloc, trees)?;
     if !same_heads(kept.heads.as_slice(), declared.as_slice()) {
-        return find_heads(rt, alloc, workers, infer, reads, names, trees, declared);
+        let found = find_heads(rt, alloc, workers, infer, reads, names, trees, declared)?;
+        return Ok(FoundAgain {
+            found,
+            unchanged: nothing_unchanged(alloc),
+        });
     }
     let index = base.take_index();
     match rebuild(alloc, declared, index, trees, infer) {

@@ -16,7 +16,9 @@ use Rattle.jn_phases.specs.Phases.{IsPhase, IsTypedOr, PhaseRows}
 use Rattle.jn_phases.specs.Typing.{IsTyping}
 use Rattle.jn_phases.proofs.Reporting.{are_parsed, found_whole}
 use Rattle.jn_kept_points.specs.declared.typing.TypedTrees.{TypedTrees}
-use Rattle.jn_kept_points.specs.Typings.{IsKeptOf}
+use Rattle.jn_kept_points.specs.declared.typing.Unchanged.{Unchanged}
+use Rattle.jn_kept_points.specs.Typings.{IsKeptOf, IsUnchangedIn}
+use Rattle.jn_points.specs.declared.program.Program.{Program}
 use Rattle.jn_kept_trees.specs.declared.again.ParsedAgain.{ParsedAgain}
 use Rattle.jn_kept_trees.specs.declared.kept.KeptTree.{KeptTree}
 use Rattle.jn_kept_trees.specs.declared.typing.TypedAgain.{TypedAgain}
@@ -33,6 +35,10 @@ RefusesBy rows typed = (sorted : List Row) × IsOrderOf rows sorted × (typed.ro
 -- the rows are those of the limits
 abbrev pub Limited : List SourceRead → List Row → Type 0
 Limited reads limits = (files : List SourceFile) → AreReads reads files → limits ≡ limit_rows files
+
+-- what is told of a program is told of the same one
+pub unchanged_by : (P : Program) (one two : Option Program) (unchanged : Unchanged) → two ≡ one → IsUnchangedIn P one unchanged → IsUnchangedIn P two unchanged
+unchanged_by P one two unchanged e h = subst (λ (base : Option Program). IsUnchangedIn P base unchanged) (sym e) h
 
 never_some : {A : Type 0} (found : Option A) → found ≡ None → IsSome found → ⊥
 never_some None e s = absurd cc

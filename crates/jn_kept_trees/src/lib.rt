@@ -17,4 +17,4 @@ mod unchanged;
 pub mod updating;
 
 pub use kept::KeptTree;
-pub use typing::{TypedAgain, type_files_again, type_files_on};
+pub use typing::{TypedAgain, TypedOn, type_files_again, type_files_on};

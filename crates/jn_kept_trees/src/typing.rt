@@ -10,7 +10,7 @@ ghost use Rattle.jn_front.specs.Files.{files_of_reads, AreReads, most_files};
 ghost use Rattle.jn_front.specs.Limits.{limit_rows};
 ghost use Rattle.jn_phases.specs.Phases.{IsTypedOr};
 ghost use Rattle.jn_phases.specs.Typing.{IsTyping};
-ghost use Rattle.jn_kept_points.specs.Typings.{IsKeptOf, IsTypingOf};
+ghost use Rattle.jn_kept_points.specs.Typings.{IsKeptOf, IsTypingOf, IsUnchangedIn};
 ghost use Rattle.jn_kept_trees.specs.KeptTrees.{AreAllKept, AreKeptTrees};
 ghost use Rattle.jn_kept_trees.specs.Merges.{CanBeKept};
 ghost use Rattle.jn_kept_trees.specs.Retyped.{AreParsedAgain, AreTypedAgain};
@@ -23,7 +23,10 @@ use jn_base::lists::put;
 use jn_base::{Infer, OutOfMemory, Row, Seq};
 use jn_front::{SourceFile, SourceRead, limit_rows};
 use jn_index::BaseTyped;
-use jn_kept_points::{KeptTyping, TypedTrees, find_trees_again, find_trees_anew};
+use jn_kept_points::{
+    FoundAgain, KeptTyping, TypedTrees, Unchanged, find_trees_again, find_trees_anew,
+    nothing_unchanged,
+};
 use jn_phases::{TypedFiles, Typing, refused_texts};
 use jn_sharing::Gate;
 use jn_trees::{FileTree, Names};
@@ -43,6 +46,15 @@ pub struct TypedAgain {
     pub kept: Vec<Option<KeptTree>>,
     /// What is to be kept beside the program; it is there where there is a program.
     pub typing: Option<KeptTyping>,
+}
+
+/// What files come to, with what of an earlier program stands in theirs.
+#[derive(Drop)]
+pub struct TypedOn {
+    /// What they come to, and what is to be kept of them.
+    pub typed: TypedAgain,
+    /// What of the earlier program stands in theirs; where they have none, it says nothing.
+    pub unchanged: Unchanged,
 }
 
 fn no_rows(rows: &Vec<Row>) -> bool
@@ -133,7 +145,8 @@ fn keep(
     requires parsed { AreParsedAgain reads.now parsed }
     requires typing { IsTyping infer (files_of_reads reads.now) parsed.names (map placed_file parsed.trees.items) found.typing }
     requires kept { IsKeptOf infer (map placed_file parsed.trees.items) found.typing.base found.kept }
-    ensures { IfOk result (λ typed. AreTypedAgain infer reads.now typed) }
+    ensures typed { IfOk result (λ typed. AreTypedAgain infer reads.now typed) }
+    ensures base { IfOk result (λ typed. typed.base ≡ found.typing.base) }
 {
     let _infer = infer;
     let ParsedAgain {
@@ -233,10 +246,11 @@ pub fn type_files_again<R: Threads + Sync, G: Gate + Sync>(
 
 /// Does what [`type_files_again`] does, where the program `base` is that of files whose trees were kept in `trees`, and `typing` what was kept beside
 /// it: rows and index of a class table that is alike, and bodies of files whose trees stay, aren't made anew
-/// ([`jn_kept_points::find_trees_again`]).
+/// ([`jn_kept_points::find_trees_again`]). So much is told with what is found.
 ///
 /// # Errors
 /// Those of [`type_files_again`].
+#[tactic(auto, using(jn_kept_points::proofs::Knowing::nothing_told, crate::proofs::Found::unchanged_by))]
 pub fn type_files_on<R: Threads + Sync, G: Gate + Sync>(
     rt: &R,
     gate: &G,
@@ -248,7 +262,7 @@ pub fn type_files_on<R: Threads + Sync, G: Gate + Sync>(
     trees: Vec<Option<KeptTree>>,
     base: &mut BaseTyped,
     typing: &KeptTyping,
-) -> Result<TypedAgain, OutOfMemory>
+) -> Result<TypedOn, OutOfMemory>
     requires workers { (1 ≤ workers) × (workers ≤ 16) }
     requires few { length reads.now ≤ most_files }
     requires fit { ReadsFit reads.now }
@@ -256,21 +270,28 @@ pub fn type_files_on<R: Threads + Sync, G: Gate + Sync>(
     requires kept { AreKeptTrees last.now trees.items }
     requires earlier { (before : List PlacedFile) × HaveTrees trees.items before
         × IsTypingOf infer before base.old typing.now }
-    ensures typed { IfOk result (λ typed. (files : List FileOf) → AreReads reads.now files
-        → (placed : List PlacedFile) × IsTypedOr infer files typed.names placed typed.rows typed.base) }
-    ensures kept { IfOk result (λ typed. (files : List FileOf) → AreReads reads.now files
-        → AreKeptTrees files typed.kept.items) }
-    ensures all { IfOk result (λ typed. (files : List FileOf) → AreReads reads.now files
-        → limit_rows files ≡ [] → AreAllKept files typed.kept.items) }
-    ensures typing { IfOk result (λ typed. IsSome typed.base → (placed : List PlacedFile)
-        × HaveTrees typed.kept.items placed × IsKeptOf infer placed typed.base typed.typing) }
+    ensures typed { IfOk result (λ on. (files : List FileOf) → AreReads reads.now files
+        → (placed : List PlacedFile) × IsTypedOr infer files on.typed.names placed on.typed.rows on.typed.base) }
+    ensures kept { IfOk result (λ on. (files : List FileOf) → AreReads reads.now files
+        → AreKeptTrees files on.typed.kept.items) }
+    ensures all { IfOk result (λ on. (files : List FileOf) → AreReads reads.now files
+        → limit_rows files ≡ [] → AreAllKept files on.typed.kept.items) }
+    ensures typing { IfOk result (λ on. IsSome on.typed.base → (placed : List PlacedFile)
+        × HaveTrees on.typed.kept.items placed × IsKeptOf infer placed on.typed.base on.typed.typing) }
+    ensures unchanged { IfOk result
+        (λ on. IsUnchangedIn base.old on.typed.base on.unchanged) }
     ensures base { base.new ≡ base.old }
 {
     let parsed = match parse_or_refuse(rt, gate, alloc, workers, infer, reads, last, trees)? {
         Ok(parsed) => parsed,
-        Err(typed) => return Ok(typed),
+        Err(typed) => {
+            return Ok(TypedOn {
+                typed,
+                unchanged: nothing_unchanged(alloc),
+            });
+        }
     };
-    let found = find_trees_again(
+    let FoundAgain { found, unchanged } = find_trees_again(
         rt,
         alloc,
         workers,
@@ -282,5 +303,6 @@ pub fn type_files_on<R: Threads + Sync, G: Gate + Sync>(
         base,
         typing,
     )?;
-    keep(alloc, infer, reads, parsed, found)
+    let typed = keep(alloc, infer, reads, parsed, found)?;
+    Ok(TypedOn { typed, unchanged })
 }

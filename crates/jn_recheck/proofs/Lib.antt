@@ -9,3 +9,4 @@ pub mod Fitting
 pub mod OneReport
 pub mod OwnNames
 pub mod Unchanged
+pub mod Comparing

@@ -4,7 +4,8 @@ use Rattle.jn_base.specs.declared.infer.Infer.{Infer}
 use Rattle.jn_places.specs.Placed.{PlacedFile}
 use Rattle.jn_points.specs.declared.program.Program.{Program}
 use Rattle.jn_kept_points.specs.declared.typing.KeptTyping.{KeptTyping}
-use Rattle.jn_kept_points.specs.Typings.{IsTypingOf}
+use Rattle.jn_kept_points.specs.declared.typing.Unchanged.{Unchanged}
+use Rattle.jn_kept_points.specs.Typings.{IsTypingOf, IsUnchangedIn}
 use Rattle.jn_kept_trees.specs.declared.kept.KeptTree.{KeptTree}
 use Rattle.jn_kept_trees.specs.Staying.{HaveTrees}
 use Rattle.jn_recheck_law.specs.Reusable.{Solved}
@@ -29,3 +30,8 @@ KeepsBase kept (Some P) = KeepsProgram kept P
 abbrev pub beside : Option Solved → Option KeptTyping → Option KeptTyping
 beside None typing = None
 beside (Some solved) typing = typing
+
+-- what is told of the kept program stands in the one that is found
+abbrev pub StandsIn : Option Solved → Option Program → Unchanged → Type 0
+StandsIn None base unchanged = Unit {0}
+StandsIn (Some old) base unchanged = IsUnchangedIn old.program base unchanged

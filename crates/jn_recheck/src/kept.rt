@@ -1,27 +1,29 @@
 //! What is kept of a report that came to the rules.
-ghost use Rattle.std.specs.Prelude.{◌≡◌, ◌≤◌, ◌<◌, IfOk, IsSome, List, length};
+ghost use Rattle.std.specs.Prelude.{◌≡◌, ◌≤◌, ◌<◌, [], false, IfOk, IsSome, List, length};
 ghost use Rattle.jn_contrib.specs.Entries.{AreOverriders};
 ghost use Rattle.jn_front.specs.Counted.{ReadsFit};
 ghost use Rattle.jn_front.specs.Files.{AreReads, most_files};
 ghost use Rattle.jn_front.specs.declared.source.SourceFile.{SourceFile as FileOf};
-ghost use Rattle.jn_kept_points.specs.Typings.{IsKeptOf, IsTypingOf};
+ghost use Rattle.jn_kept_points.specs.Typings.{IsKeptOf};
 ghost use Rattle.jn_kept_trees.specs.KeptTrees.{AreKeptTrees};
 ghost use Rattle.jn_kept_trees.specs.Staying.{HaveTrees};
 ghost use Rattle.jn_places.specs.Placed.{PlacedFile};
 ghost use Rattle.jn_phases.specs.Phases.{IsTypedOr};
-ghost use Rattle.jn_points.specs.BaseRows.{NoBaseRows};
 ghost use Rattle.jn_points.specs.Regular.{Regular};
 ghost use Rattle.jn_inference_law.specs.Solution.{IsLeastSignature};
 ghost use Rattle.jn_recheck.specs.KeptRows.{AreKept};
+ghost use Rattle.jn_recheck.specs.Standing.{StandsIn, StandsOn};
 ghost use Rattle.jn_system.specs.Rows.{least_rows};
+ghost use Rattle.jn_transfer.specs.Rules.{pairs_rows};
 
+use crate::workers::Workers;
 use jn_base::{Infer, OutOfMemory, Row, Seq};
 use jn_contrib::Overrider;
 use jn_front::{SourceFile, SourceRead};
 use jn_index::BaseTyped;
 use jn_index::indexed::IndexedProgram;
-use jn_kept_points::KeptTyping;
-use jn_kept_trees::{KeptTree, TypedAgain, type_files_on};
+use jn_kept_points::{KeptTyping, nothing_unchanged};
+use jn_kept_trees::{KeptTree, TypedOn, type_files_again, type_files_on};
 use jn_points::Program;
 use jn_sharing::Gate;
 use jn_sigs::Sig;
@@ -30,8 +32,8 @@ use std::alloc::Global;
 use std::marker::Model;
 use std::thread::Threads;
 
-/// The program of the last report that came to the rules, with the texts of its names, its least signature, the rows of each of its bodies, and
-/// its methods that override. Contracts see the first three.
+/// The program of the last report that came to the rules, with the texts of its names, its least signature, the rows of each of its bodies, its methods
+/// that override, and whether an overriding pair breaks a rule. Contracts see the first three.
 #[derive(Drop)]
 pub struct Kept {
     names: Names,
@@ -39,35 +41,39 @@ pub struct Kept {
     sig: Sig,
     rows: Vec<Seq<Row>>,
     overriders: Vec<Overrider>,
+    broken: bool,
 }
 
 impl Model for Kept {
-    ghost use Rattle.jn_points.specs.Regular.{Regular};
     ghost use Rattle.jn_inference_law.specs.Solution.{IsLeastSignature};
     ghost use Rattle.jn_recheck_law.specs.Reusable.{Solved};
     ghost use Rattle.jn_contrib.specs.Entries.{AreOverriders};
     ghost use Rattle.jn_recheck.specs.KeptRows.{AreKept};
+    ghost use Rattle.jn_transfer.specs.Rules.{pairs_rows};
+    ghost use Rattle.std.specs.Prelude.{◌≡◌, [], false};
 
     ghost Value = { Solved };
 
     ghost view = { λ k. record { names = k.names; program = k.base; signature = k.sig } };
 
-    ghost invariant = { λ k. Regular k.base × IsLeastSignature k.base k.sig × AreKept k.base k.sig k.rows.items × AreOverriders k.base k.overriders.items };
+    ghost invariant = { λ k. IsLeastSignature k.base k.sig × AreKept k.base k.sig k.rows.items × AreOverriders k.base k.overriders.items × (k.broken ≡ false → pairs_rows k.base k.sig ≡ []) };
 }
 
 impl Kept {
-    /// What is kept of a program whose bodies have these rows under its least signature, and which has these methods that override.
+    /// What is kept of a program whose bodies have these rows under its least signature, and which has these methods that override; `broken` tells whether
+    /// an overriding pair breaks a rule.
     pub(crate) fn of(
         names: Names,
         base: BaseTyped,
         sig: Sig,
         rows: Vec<Seq<Row>>,
         overriders: Vec<Overrider>,
+        broken: bool,
     ) -> Kept
-        requires regular { Regular base }
         requires least { IsLeastSignature base sig }
         requires rows { AreKept base sig rows.items }
         requires overriders { AreOverriders base overriders.items }
+        requires pairs { broken ≡ false → pairs_rows base sig ≡ [] }
         ensures { result ≡ record { names = names; program = base; signature = sig } }
     {
         Kept {
@@ -76,6 +82,7 @@ impl Kept {
             sig,
             rows,
             overriders,
+            broken,
         }
     }
 
@@ -117,6 +124,7 @@ impl Kept {
         ensures is { body < length self.now.program.bodies
             → result.now ≡ least_rows self.now.program self.now.signature body }
     {
+        let _program = self.base.program();
         match self.rows.as_slice().get(body as usize) {
             None => &[],
             Some(rows) => rows.as_slice(),
@@ -130,45 +138,74 @@ impl Kept {
         self.overriders.as_slice()
     }
 
-    /// What files come to before their rules are looked at, as [`type_files_on`] finds it over the program.
-    pub(crate) fn type_on<R: Threads + Sync, G: Gate + Sync>(
-        &mut self,
-        rt: &R,
-        gate: &G,
-        alloc: Global,
-        workers: u32,
-        infer: Infer,
-        reads: &[SourceRead],
-        last: &[SourceFile],
-        trees: Vec<Option<KeptTree>>,
-        typing: &KeptTyping,
-    ) -> Result<TypedAgain, OutOfMemory>
-        requires workers { (1 ≤ workers) × (workers ≤ 16) }
-        requires few { length reads.now ≤ most_files }
-        requires fit { ReadsFit reads.now }
-        requires read { (files : List FileOf) × AreReads reads.now files }
-        requires kept { AreKeptTrees last.now trees.items }
-        requires earlier { (before : List PlacedFile) × HaveTrees trees.items before
-            × IsTypingOf infer before self.old.program typing.now }
-        ensures typed { IfOk result (λ typed. (files : List FileOf) → AreReads reads.now files
-            → (placed : List PlacedFile) × IsTypedOr infer files typed.names placed typed.rows typed.base) }
-        ensures kept { IfOk result (λ typed. (files : List FileOf) → AreReads reads.now files
-            → AreKeptTrees files typed.kept.items) }
-        ensures typing { IfOk result (λ typed. IsSome typed.base → (placed : List PlacedFile)
-            × HaveTrees typed.kept.items placed × IsKeptOf infer placed typed.base typed.typing) }
-        ensures same { self.new ≡ self.old }
+    /// Whether an overriding pair breaks a rule.
+    pub(crate) fn has_broken_pairs(&self) -> bool
+        ensures { result ≡ false → pairs_rows self.now.program self.now.signature ≡ [] }
     {
-        type_files_on(
-            rt,
-            gate,
-            alloc,
-            workers,
-            infer,
-            reads,
-            last,
-            trees,
-            &mut self.base,
-            typing,
-        )
+        self.broken
+    }
+}
+
+/// What files come to before their rules are looked at: over the kept program, where the trees are those of its files; else
+/// nothing is told of it.
+#[tactic(auto, using(crate::proofs::Comparing::nothing_stands))]
+pub(crate) fn type_again<R: Threads + Sync, G: Gate + Sync>(
+    rt: &R,
+    alloc: Global,
+    workers: Workers,
+    infer: Infer,
+    reads: &[SourceRead],
+    last: &[SourceFile],
+    trees: Vec<Option<KeptTree>>,
+    kept: &mut Option<Kept>,
+    typing: &Option<KeptTyping>,
+    solving: &G,
+) -> Result<TypedOn, OutOfMemory>
+    requires few { length reads.now ≤ most_files }
+    requires fit { ReadsFit reads.now }
+    requires read { (files : List FileOf) × AreReads reads.now files }
+    requires trees { AreKeptTrees last.now trees.items }
+    requires stands { StandsOn infer trees.items kept.old typing.now }
+    ensures typed { IfOk result (λ on. (files : List FileOf) → AreReads reads.now files
+        → (placed : List PlacedFile) × IsTypedOr infer files on.typed.names placed on.typed.rows on.typed.base) }
+    ensures kept { IfOk result (λ on. (files : List FileOf) → AreReads reads.now files
+        → AreKeptTrees files on.typed.kept.items) }
+    ensures typing { IfOk result (λ on. IsSome on.typed.base → (placed : List PlacedFile)
+        × HaveTrees on.typed.kept.items placed × IsKeptOf infer placed on.typed.base on.typed.typing) }
+    ensures unchanged { IfOk result (λ on. StandsIn kept.old on.typed.base on.unchanged) }
+    ensures same { kept.new ≡ kept.old }
+{
+    match typing {
+        None => {
+            let typed = type_files_again(
+                rt,
+                solving,
+                alloc,
+                workers.count(),
+                infer,
+                reads,
+                last,
+                trees,
+            )?;
+            Ok(TypedOn {
+                typed,
+                unchanged: nothing_unchanged(alloc),
+            })
+        }
+        Some(typing) => match kept {
+            None => unreachable!(),
+            Some(kept) => type_files_on(
+                rt,
+                solving,
+                alloc,
+                workers.count(),
+                infer,
+                reads,
+                last,
+                trees,
+                &mut kept.base,
+                typing,
+            ),
+        },
     }
 }

@@ -1,10 +1,13 @@
 //! The least signature of a session's program.
-ghost use Rattle.std.specs.Prelude.{◌≤◌, IfOk};
+ghost use Rattle.std.specs.Prelude.{◌≡◌, IfOk, true};
+ghost use Rattle.jn_again.specs.Flags.{AreSame};
 ghost use Rattle.jn_contrib.specs.Entries.{AreOverriders};
 ghost use Rattle.jn_inference_law.specs.Solution.{IsLeastSignature};
-ghost use Rattle.jn_tables_law.specs.Inferable.{IsInferable};
+ghost use Rattle.jn_recheck_law.specs.Alike.{SameDeclarations};
+ghost use Rattle.jn_recheck.specs.KeptRows.{TellsKnown, TellsSame};
 
 use crate::kept::Kept;
+use crate::workers::Workers;
 use jn_again::{Earlier, solve_again};
 use jn_base::OutOfMemory;
 use jn_contrib::Overrider;
@@ -21,16 +24,19 @@ use std::thread::Threads;
 fn least_from<R: Threads + Sync, G: Gate + Sync>(
     rt: &R,
     alloc: Global,
-    workers: u32,
+    workers: Workers,
     kept: &Kept,
     names: &Names,
     base: &BaseTyped,
     overriders: &[Overrider],
+    same: bool,
+    known: &[bool],
     solving: &G,
 ) -> Result<Sig, OutOfMemory>
-    requires workers { (1 ≤ workers) × (workers ≤ 16) }
-    requires inferable { IsInferable base.now }
     requires overriders { AreOverriders base.now overriders.now }
+    requires same { same ≡ true
+        → SameDeclarations kept.now.names names.now kept.now.program base.now }
+    requires known { AreSame kept.now.program base.now known.now }
     ensures { IfOk result (λ sig. IsLeastSignature base.now sig) }
 {
     regular_programs_can_be_inferred();
@@ -47,7 +53,9 @@ fn least_from<R: Threads + Sync, G: Gate + Sync>(
         names,
         base.program(),
         overriders,
-        workers,
+        same,
+        known,
+        workers.count(),
         solving,
     )?;
     Ok(sig)
@@ -57,23 +65,35 @@ fn least_from<R: Threads + Sync, G: Gate + Sync>(
 pub(crate) fn least_sig<R: Threads + Sync, G: Gate + Sync>(
     rt: &R,
     alloc: Global,
-    workers: u32,
+    workers: Workers,
     kept: &Option<Kept>,
     names: &Names,
     base: &BaseTyped,
     overriders: &[Overrider],
+    same: bool,
+    known: &[bool],
     solving: &G,
 ) -> Result<Sig, OutOfMemory>
-    requires workers { (1 ≤ workers) × (workers ≤ 16) }
-    requires inferable { IsInferable base.now }
     requires overriders { AreOverriders base.now overriders.now }
+    requires same { TellsSame kept.now names.now base.now same }
+    requires known { TellsKnown kept.now base.now known.now }
     ensures { IfOk result (λ sig. IsLeastSignature base.now sig) }
 {
+    regular_programs_can_be_inferred();
     match kept {
         None => {
-            let sig = solve_with(rt, alloc, base.program(), overriders, workers, solving)?;
+            let sig = solve_with(
+                rt,
+                alloc,
+                base.program(),
+                overriders,
+                workers.count(),
+                solving,
+            )?;
             Ok(sig)
         }
-        Some(kept) => least_from(rt, alloc, workers, kept, names, base, overriders, solving),
+        Some(kept) => least_from(
+            rt, alloc, workers, kept, names, base, overriders, same, known, solving,
+        ),
     }
 }

@@ -1,32 +1,26 @@
 //! A report of files, for which the rows of reusable bodies aren't made anew.
-ghost use Rattle.std.specs.Prelude.{◌≡◌, ◌≤◌, ◌<◌, IfOk, IsSome, None, Some, List, ℕ, length};
+ghost use Rattle.std.specs.Prelude.{◌≡◌, IfOk, None, Some, List};
 ghost use Rattle.jn_command.specs.declared.report.Report.TheVariants.{Refused, Checked};
-ghost use Rattle.jn_front.specs.declared.source.SourceFile.{SourceFile as FileOf};
-ghost use Rattle.jn_recheck.specs.Files.{AllFit};
-ghost use Rattle.jn_front.specs.Counted.{ReadsFit};
-ghost use Rattle.jn_front.specs.Files.{AreReads, most_files};
-ghost use Rattle.jn_kept_points.specs.Typings.{IsKeptOf};
-ghost use Rattle.jn_kept_trees.specs.Staying.{HaveTrees};
 ghost use Rattle.jn_places.specs.Placed.{PlacedFile};
 ghost use Rattle.jn_phases.specs.Phases.{IsTypedOr, TypedProgramOf};
 ghost use Rattle.jn_kept_trees.specs.KeptTrees.{AreKeptTrees};
 ghost use Rattle.jn_recheck.specs.Sessions.{IsRecheck};
-ghost use Rattle.jn_recheck.specs.Standing.{KeepsBase, KeepsProgram, StandsOn, beside};
+ghost use Rattle.jn_recheck.specs.Standing.{KeepsBase, KeepsProgram, StandsIn, StandsOn, beside};
 
-use crate::kept::Kept;
+use crate::kept::{Kept, type_again};
 use crate::least::least_sig;
+use crate::pairs::overriders_again;
 use crate::reads::reads_of;
-use crate::rows::{Rules, rules_again};
+use crate::rows::{Rules, rules_again, tells_same};
+use crate::workers::Workers;
 use jn_base::{Infer, OutOfMemory, Row, Seq};
 use jn_command::Report;
-use jn_contrib::overriders;
-use jn_front::{SourceFile, SourceRead};
+use jn_front::SourceFile;
 use jn_index::BaseTyped;
-use jn_kept_points::KeptTyping;
-use jn_kept_trees::{KeptTree, TypedAgain, type_files_again};
+use jn_kept_points::{KeptTyping, Unchanged};
+use jn_kept_trees::{KeptTree, TypedAgain, TypedOn};
 use jn_phases::too_many_files;
 use jn_sharing::Gate;
-use jn_tables_law::law::regular_programs_can_be_inferred;
 use jn_trees::Names;
 use std::alloc::Global;
 use std::thread::Threads;
@@ -56,25 +50,26 @@ fn refused(rows: Seq<Row>) -> Rechecked
 fn check_typed<R: Threads + Sync, G: Gate + Sync, H: Gate + Sync>(
     rt: &R,
     alloc: Global,
-    workers: u32,
+    workers: Workers,
     infer: Infer,
     files: &[SourceFile],
     kept: &Option<Kept>,
     names: Names,
     base: BaseTyped,
+    unchanged: &Unchanged,
     solving: &G,
     bodies: &H,
 ) -> Result<Rechecked, OutOfMemory>
-    requires workers { (1 ≤ workers) × (workers ≤ 16) }
     requires program { TypedProgramOf infer files.now names base }
+    requires unchanged { StandsIn kept.now (Some base) unchanged.now }
     ensures recheck { IfOk result
         (λ r. IsRecheck infer kept.now files.now r.report r.kept r.made) }
     ensures program { IfOk result (λ r. KeepsProgram r.kept base) }
 {
     let _infer = infer;
     let _files = files;
-    regular_programs_can_be_inferred();
-    let list = overriders(alloc, base.indexed())?;
+    let list = overriders_again(alloc, kept, &base, unchanged)?;
+    let same = tells_same(kept, &names, base.program());
     let sig = least_sig(
         rt,
         alloc,
@@ -83,10 +78,12 @@ fn check_typed<R: Threads + Sync, G: Gate + Sync, H: Gate + Sync>(
         &names,
         &base,
         list.as_slice(),
+        same,
+        unchanged.bodies.as_slice(),
         solving,
     )?;
     let Rules { rows, kept, made } = rules_again(
-        rt, alloc, kept, names, base, list, sig, workers, bodies,
+        rt, alloc, kept, names, base, list, sig, same, unchanged, workers, bodies,
     )?;
     Ok(Rechecked {
         report: Report::Checked(Seq::of_vec(rows)),
@@ -107,17 +104,18 @@ pub(crate) struct FilesAgain {
 fn finish<R: Threads + Sync, G: Gate + Sync, H: Gate + Sync>(
     rt: &R,
     alloc: Global,
-    workers: u32,
+    workers: Workers,
     infer: Infer,
     files: &[SourceFile],
     kept: &Option<Kept>,
     names: Names,
     rows: Seq<Row>,
     base: Option<BaseTyped>,
+    unchanged: &Unchanged,
     solving: &G,
     bodies: &H,
 ) -> Result<Rechecked, OutOfMemory>
-    requires workers { (1 ≤ workers) × (workers ≤ 16) }
+    requires unchanged { StandsIn kept.now base unchanged.now }
     requires typed { (trees : List PlacedFile) × IsTypedOr infer files.now names trees rows base }
     ensures recheck { IfOk result
         (λ r. IsRecheck infer kept.now files.now r.report r.kept r.made) }
@@ -131,79 +129,9 @@ fn finish<R: Threads + Sync, G: Gate + Sync, H: Gate + Sync>(
         Some(base) => {
             drop(rows);
             return check_typed(
-                rt, alloc, workers, infer, files, kept, names, base, solving, bodies,
+                rt, alloc, workers, infer, files, kept, names, base, unchanged, solving, bodies,
             );
         }
-    }
-}
-
-/// What files come to before their rules are looked at, over the kept program, beside which this is kept: the trees are those of its files.
-fn type_beside<R: Threads + Sync, G: Gate + Sync>(
-    rt: &R,
-    alloc: Global,
-    workers: u32,
-    infer: Infer,
-    reads: &[SourceRead],
-    last: &[SourceFile],
-    trees: Vec<Option<KeptTree>>,
-    kept: &mut Option<Kept>,
-    typing: &KeptTyping,
-    solving: &G,
-) -> Result<TypedAgain, OutOfMemory>
-    requires workers { (1 ≤ workers) × (workers ≤ 16) }
-    requires few { length reads.now ≤ most_files }
-    requires fit { ReadsFit reads.now }
-    requires read { (files : List FileOf) × AreReads reads.now files }
-    requires trees { AreKeptTrees last.now trees.items }
-    requires stands { StandsOn infer trees.items kept.old (Some typing.now) }
-    ensures typed { IfOk result (λ typed. (files : List FileOf) → AreReads reads.now files
-        → (placed : List PlacedFile) × IsTypedOr infer files typed.names placed typed.rows typed.base) }
-    ensures kept { IfOk result (λ typed. (files : List FileOf) → AreReads reads.now files
-        → AreKeptTrees files typed.kept.items) }
-    ensures typing { IfOk result (λ typed. IsSome typed.base → (placed : List PlacedFile)
-        × HaveTrees typed.kept.items placed × IsKeptOf infer placed typed.base typed.typing) }
-    ensures same { kept.new ≡ kept.old }
-{
-    match kept {
-        None => type_files_again(rt, solving, alloc, workers, infer, reads, last, trees),
-        Some(kept) => kept.type_on(
-            rt, solving, alloc, workers, infer, reads, last, trees, typing,
-        ),
-    }
-}
-
-/// What files come to before their rules are looked at: over the kept program, where the trees are those of its files.
-fn type_again<R: Threads + Sync, G: Gate + Sync>(
-    rt: &R,
-    alloc: Global,
-    workers: u32,
-    infer: Infer,
-    reads: &[SourceRead],
-    last: &[SourceFile],
-    trees: Vec<Option<KeptTree>>,
-    kept: &mut Option<Kept>,
-    typing: &Option<KeptTyping>,
-    solving: &G,
-) -> Result<TypedAgain, OutOfMemory>
-    requires workers { (1 ≤ workers) × (workers ≤ 16) }
-    requires few { length reads.now ≤ most_files }
-    requires fit { ReadsFit reads.now }
-    requires read { (files : List FileOf) × AreReads reads.now files }
-    requires trees { AreKeptTrees last.now trees.items }
-    requires stands { StandsOn infer trees.items kept.old typing.now }
-    ensures typed { IfOk result (λ typed. (files : List FileOf) → AreReads reads.now files
-        → (placed : List PlacedFile) × IsTypedOr infer files typed.names placed typed.rows typed.base) }
-    ensures kept { IfOk result (λ typed. (files : List FileOf) → AreReads reads.now files
-        → AreKeptTrees files typed.kept.items) }
-    ensures typing { IfOk result (λ typed. IsSome typed.base → (placed : List PlacedFile)
-        × HaveTrees typed.kept.items placed × IsKeptOf infer placed typed.base typed.typing) }
-    ensures same { kept.new ≡ kept.old }
-{
-    match typing {
-        None => type_files_again(rt, solving, alloc, workers, infer, reads, last, trees),
-        Some(typing) => type_beside(
-            rt, alloc, workers, infer, reads, last, trees, kept, typing, solving,
-        ),
     }
 }
 
@@ -226,7 +154,7 @@ fn beside(found: &Rechecked, typing: Option<KeptTyping>) -> Option<KeptTyping>
 pub(crate) fn recheck_files<R: Threads + Sync, G: Gate + Sync, H: Gate + Sync>(
     rt: &R,
     alloc: Global,
-    workers: u32,
+    workers: Workers,
     infer: Infer,
     files: &[SourceFile],
     last: &[SourceFile],
@@ -236,7 +164,6 @@ pub(crate) fn recheck_files<R: Threads + Sync, G: Gate + Sync, H: Gate + Sync>(
     solving: &G,
     bodies: &H,
 ) -> Result<FilesAgain, OutOfMemory>
-    requires workers { (1 ≤ workers) × (workers ≤ 16) }
     requires trees { AreKeptTrees last.now trees.items }
     requires stands { StandsOn infer trees.items kept.old typing.now }
     ensures recheck { IfOk result
@@ -253,18 +180,20 @@ pub(crate) fn recheck_files<R: Threads + Sync, G: Gate + Sync, H: Gate + Sync>(
         });
     }
     let reads = reads_of(alloc, files)?;
+    let on = type_again(
+        rt, alloc, workers, infer, &reads, last, trees, kept, typing, solving,
+    )?;
+    drop(reads);
+    let TypedOn { typed, unchanged } = on;
     let TypedAgain {
         rows,
         base,
         names,
         kept: trees,
         typing,
-    } = type_again(
-        rt, alloc, workers, infer, &reads, last, trees, kept, typing, solving,
-    )?;
-    drop(reads);
+    } = typed;
     let found = finish(
-        rt, alloc, workers, infer, files, kept, names, rows, base, solving, bodies,
+        rt, alloc, workers, infer, files, kept, names, rows, base, &unchanged, solving, bodies,
     )?;
     let typing = beside(&found, typing);
     Ok(FilesAgain {

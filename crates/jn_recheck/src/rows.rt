@@ -1,14 +1,14 @@
 //! The rows of all bodies, of which those that are reusable aren't made anew.
-ghost use Rattle.std.specs.Prelude.{◌≡◌, ◌≤◌, ◌<◌, ◌^◌, ◌↔◌, ◌++◌, ◌∷◌, [], ℕ, List, flat_map, IfOk, MatchOption, OnOk, None, Some, length, true};
+ghost use Rattle.std.specs.Prelude.{◌≡◌, ◌≤◌, ◌<◌, ◌^◌, ◌↔◌, ◌++◌, ◌∷◌, [], ℕ, List, flat_map, IfOk, MatchOption, OnOk, None, Some, get_or, length, false, true};
 ghost use Rattle.jn_base.specs.declared.place.Row.{Row as RowOf};
 ghost use Rattle.jn_contrib.specs.Entries.{AreOverriders};
 ghost use Rattle.jn_tables_law.specs.Inferable.{IsInferable};
-ghost use Rattle.jn_points.specs.Regular.{Regular};
 ghost use Rattle.jn_inference_law.specs.Solution.{IsLeastSignature};
 ghost use Rattle.jn_recheck_law.specs.Alike.{SameDeclarations};
 ghost use Rattle.jn_recheck_law.specs.Reusable.{IsReusable, Solved as SolvedOf};
-ghost use Rattle.jn_recheck.specs.KeptRows.{AreKept, AreMadeAnew, IsReusableFrom, TellsSame};
-ghost use Rattle.jn_recheck.specs.Found.{AreFound, IsFound, made_of, rows_found, solved_of};
+ghost use Rattle.jn_recheck.specs.KeptRows.{AreKept, AreMadeAnew, IsReusableFrom, TellsEqual, TellsNamed, TellsSame};
+ghost use Rattle.jn_recheck.specs.Found.{AreFound, IsFound, Tells, made_of, rows_found, solved_of};
+ghost use Rattle.jn_recheck.specs.Standing.{StandsIn};
 ghost use Rattle.jn_env.specs.ClassFields.{AreOwnFields};
 ghost use Rattle.jn_system.specs.Ready.{AreReady};
 ghost use Rattle.jn_points.specs.Members.{below};
@@ -16,14 +16,17 @@ ghost use Rattle.jn_system.specs.Rows.{AreBroken, least_rows};
 ghost use Rattle.jn_transfer.specs.Rules.{pairs_rows};
 
 use crate::kept::Kept;
+use crate::pairs::pairs_again;
+use crate::workers::Workers;
 use jn_base::{BodyNo, OutOfMemory, Row, Seq};
-use jn_checks::override_rows;
 use jn_contrib::Overrider;
 use jn_diag::order;
 use jn_env::OwnFields;
 use jn_index::BaseTyped;
+use jn_kept_points::Unchanged;
+use jn_kept_points::known::is_told;
 use jn_points::Program;
-use jn_reuse::{Solved, is_reusable, same_declarations};
+use jn_reuse::{Solved, is_reusable, same_declarations, same_names, same_sigs};
 use jn_sharing::{Gate, share_out};
 use jn_sigs::Sig;
 use jn_system::bodies::Bodies;
@@ -46,16 +49,40 @@ pub(crate) struct BodyRows {
     pub reused: bool,
 }
 
-/// Whether the body is reusable; never where nothing is kept. `same` says whether the programs declare the same.
+/// What was compared of the kept program and the new one before their bodies are.
+#[derive(Drop)]
+pub(crate) struct Compared<'c> {
+    /// Whether they declare the same; never where nothing is kept.
+    pub same: bool,
+    /// Whether their signatures are equal.
+    pub equal: bool,
+    /// Whether their names are the same.
+    pub named: bool,
+    /// For each body whether it is the kept program's; none past the last flag.
+    pub known: &'c [bool],
+}
+
+/// Whether the names and the body are told to be the kept ones.
+fn is_known(compared: &Compared, body: BodyNo) -> bool
+    ensures named { result ≡ true → compared.now.named ≡ true }
+    ensures known { result ≡ true → get_or compared.now.known.now body.0 false ≡ true }
+{
+    if !compared.named {
+        return false;
+    }
+    is_told(compared.known, body.0 as usize)
+}
+
+/// Whether the body is reusable; never where nothing is kept.
 fn is_kept(
     alloc: Global,
     kept: &Option<Kept>,
     new: &Solved,
     own: &OwnFields,
-    same: bool,
+    compared: &Compared,
     body: BodyNo,
 ) -> Result<bool, OutOfMemory>
-    requires same { TellsSame kept.now (solved_of new.now) same }
+    requires tells { Tells kept.now (solved_of new.now) compared.now }
     requires inside { body.0 < length new.now.program.now.bodies }
     requires few { length new.now.program.now.fields < 2 ^ 32 }
     requires own { AreOwnFields new.now.program.now own.now }
@@ -70,7 +97,17 @@ fn is_kept(
                 program: kept.program(),
                 sig: kept.sig(),
             };
-            is_reusable(alloc, &old, new, own, same, body)
+            let known = is_known(compared, body);
+            is_reusable(
+                alloc,
+                &old,
+                new,
+                own,
+                compared.same,
+                compared.equal,
+                known,
+                body,
+            )
         }
     }
 }
@@ -111,13 +148,13 @@ fn body_again<G: Gate>(
     alloc: Global,
     kept: &Option<Kept>,
     names: &Names,
-    same: bool,
+    compared: &Compared,
     bodies: &Bodies,
     body: u32,
     worker: u32,
     gate: &G,
 ) -> Result<BodyRows, OutOfMemory>
-    requires same { TellsSame kept.now (record { names = names.now; program = bodies.now.program.now; signature = bodies.now.sig.now }) same }
+    requires tells { Tells kept.now (record { names = names.now; program = bodies.now.program.now; signature = bodies.now.sig.now }) compared.now }
     requires ready { AreReady bodies.now.program.now bodies.now.own.now }
     requires inside { body < length bodies.now.program.now.bodies }
     ensures rows { IfOk result
@@ -130,7 +167,7 @@ fn body_again<G: Gate>(
         program: bodies.program,
         sig: bodies.sig,
     };
-    let reused = is_kept(alloc, kept, &new, bodies.own, same, BodyNo(body))?;
+    let reused = is_kept(alloc, kept, &new, bodies.own, compared, BodyNo(body))?;
     let rows = rows_again(alloc, kept, names, reused, bodies, body, worker, gate)?;
     Ok(BodyRows { rows, reused })
 }
@@ -141,24 +178,34 @@ fn bodies_again<R: Threads + Sync, G: Gate + Sync>(
     alloc: Global,
     kept: &Option<Kept>,
     names: &Names,
-    same: bool,
+    compared: &Compared,
     bodies: &Bodies,
-    workers: u32,
+    workers: Workers,
     gate: &G,
 ) -> Result<Vec<BodyRows>, OutOfMemory>
-    requires same { TellsSame kept.now (record { names = names.now; program = bodies.now.program.now; signature = bodies.now.sig.now }) same }
+    requires tells { Tells kept.now (record { names = names.now; program = bodies.now.program.now; signature = bodies.now.sig.now }) compared.now }
     requires ready { AreReady bodies.now.program.now bodies.now.own.now }
-    requires workers { 0 < workers }
     ensures { IfOk result (λ found. AreFound kept.now (record { names = names.now; program = bodies.now.program.now; signature = bodies.now.sig.now }) found.items) }
 {
     let count = bodies.program.bodies.len();
     let again = |body: usize, worker: u32| -> Result<BodyRows, OutOfMemory>
-        requires { TellsSame kept.now (record { names = names.now; program = bodies.now.program.now; signature = bodies.now.sig.now }) same
+        requires { Tells kept.now (record { names = names.now; program = bodies.now.program.now; signature = bodies.now.sig.now }) compared.now
             × AreReady bodies.now.program.now bodies.now.own.now
             × (body < length bodies.now.program.now.bodies) }
         ensures { IfOk result (λ found. IsFound kept.entry.now (record { names = names.entry.now; program = bodies.entry.now.program.now; signature = bodies.entry.now.sig.now }) body found) }
-    { body_again(alloc, kept, names, same, bodies, body as u32, worker, gate) };
-    let found = share_out(rt, alloc, count, workers - 1, &again)?;
+    {
+        body_again(
+            alloc,
+            kept,
+            names,
+            compared,
+            bodies,
+            body as u32,
+            worker,
+            gate,
+        )
+    };
+    let found = share_out(rt, alloc, count, workers.count() - 1, &again)?;
     Ok(found)
 }
 
@@ -205,13 +252,32 @@ fn rows_alone(alloc: Global, found: Vec<BodyRows>) -> Result<Vec<Seq<Row>>, OutO
 }
 
 /// Whether the programs declare the same; never where nothing is kept.
-fn tells_same(kept: &Option<Kept>, names: &Names, program: &Program, sig: &Sig) -> bool
-    ensures { TellsSame kept.now (record { names = names.now; program = program.now; signature = sig.now }) result }
+pub(crate) fn tells_same(kept: &Option<Kept>, names: &Names, program: &Program) -> bool
+    ensures { TellsSame kept.now names.now program.now result }
 {
-    let _sig = sig;
     match kept {
         None => false,
         Some(kept) => same_declarations(kept.names(), kept.program(), names, program),
+    }
+}
+
+/// Whether the signature is the kept one.
+fn tells_equal(kept: &Option<Kept>, sig: &Sig) -> bool
+    ensures { TellsEqual kept.now sig.now result }
+{
+    match kept {
+        None => false,
+        Some(kept) => same_sigs(kept.sig(), sig),
+    }
+}
+
+/// Whether the names are the kept ones.
+fn tells_named(kept: &Option<Kept>, names: &Names) -> bool
+    ensures { TellsNamed kept.now names.now result }
+{
+    match kept {
+        None => false,
+        Some(kept) => same_names(kept.names(), names),
     }
 }
 
@@ -224,11 +290,12 @@ fn all_again<R: Threads + Sync, G: Gate + Sync>(
     names: &Names,
     program: &Program,
     sig: &Sig,
-    workers: u32,
+    compared: &Compared,
+    workers: Workers,
     gate: &G,
 ) -> Result<AllRows, OutOfMemory>
+    requires tells { Tells kept.now (record { names = names.now; program = program.now; signature = sig.now }) compared.now }
     requires inferable { IsInferable program.now }
-    requires workers { 0 < workers }
     ensures kept { IfOk result (λ all. AreKept program.now sig.now all.rows.items) }
     ensures made { IfOk result (λ all. AreMadeAnew kept.now (record { names = names.now; program = program.now; signature = sig.now }) all.made) }
 {
@@ -238,8 +305,7 @@ fn all_again<R: Threads + Sync, G: Gate + Sync>(
         sig,
         own: &own,
     };
-    let same = tells_same(kept, names, program, sig);
-    let found = bodies_again(rt, alloc, kept, names, same, &bodies, workers, gate)?;
+    let found = bodies_again(rt, alloc, kept, names, compared, &bodies, workers, gate)?;
     let made = made_anew(&found);
     let rows = rows_alone(alloc, found)?;
     Ok(AllRows { rows, made })
@@ -293,6 +359,12 @@ fn in_order(
     Ok(all)
 }
 
+fn has_rows(rows: &Vec<Row>) -> bool
+    ensures { result ≡ false → rows.now.items ≡ [] }
+{
+    !rows.is_empty()
+}
+
 /// The rows of the rules of a program, and what is kept of them.
 #[derive(Drop)]
 pub(crate) struct Rules {
@@ -302,7 +374,8 @@ pub(crate) struct Rules {
 }
 
 /// The rows of the rules of a program under its least signature: those of reusable bodies are the kept ones, and those of all others are made by so
-/// many workers, who enter the gate once for each.
+/// many workers, who enter the gate once for each. `same` tells whether the kept program declares the same, and `unchanged` what else
+/// of it stands.
 pub(crate) fn rules_again<R: Threads + Sync, G: Gate + Sync>(
     rt: &R,
     alloc: Global,
@@ -311,18 +384,28 @@ pub(crate) fn rules_again<R: Threads + Sync, G: Gate + Sync>(
     base: BaseTyped,
     overriders: Vec<Overrider>,
     sig: Sig,
-    workers: u32,
+    same: bool,
+    unchanged: &Unchanged,
+    workers: Workers,
     gate: &G,
 ) -> Result<Rules, OutOfMemory>
-    requires inferable { IsInferable base }
+    requires same { TellsSame kept.now names base same }
+    requires unchanged { StandsIn kept.now (Some base) unchanged.now }
     requires overriders { AreOverriders base overriders.items }
-    requires regular { Regular base }
     requires least { IsLeastSignature base sig }
-    requires workers { 0 < workers }
     ensures rows { IfOk result (λ rules. AreBroken base sig rules.rows.items) }
     ensures kept { IfOk result (λ rules. rules.kept ≡ record { names = names; program = base; signature = sig }) }
     ensures made { IfOk result (λ rules. AreMadeAnew kept.now (record { names = names; program = base; signature = sig }) rules.made) }
 {
+    regular_programs_can_be_inferred();
+    let equal = tells_equal(kept, &sig);
+    let named = tells_named(kept, &names);
+    let compared = Compared {
+        same,
+        equal,
+        named,
+        known: unchanged.bodies.as_slice(),
+    };
     let AllRows { rows, made } = all_again(
         rt,
         alloc,
@@ -330,14 +413,16 @@ pub(crate) fn rules_again<R: Threads + Sync, G: Gate + Sync>(
         &names,
         base.program(),
         &sig,
+        &compared,
         workers,
         gate,
     )?;
-    let pairs = override_rows(alloc, base.indexed(), &sig)?;
+    let pairs = pairs_again(alloc, kept, &names, &base, &sig, &compared, unchanged)?;
+    let broken = has_rows(&pairs);
     let all = in_order(alloc, base.program(), &sig, &rows, &pairs)?;
     Ok(Rules {
         rows: all,
-        kept: Kept::of(names, base, sig, rows, overriders),
+        kept: Kept::of(names, base, sig, rows, overriders, broken),
         made,
     })
 }

@@ -3,11 +3,12 @@ ghost use Rattle.std.specs.Prelude.{◌≡◌, ◌≢◌, ◌≤◌, ◌↔◌, 
 ghost use Rattle.jn_recheck.specs.Files.{AllFit, HaveOwnNames, changed, place_of, with_file, without_file};
 ghost use Rattle.jn_recheck.specs.Sessions.{HaveNotes, Reports, or_else};
 
-use crate::files::{copy_files, remove_file, set_file};
+use crate::file_set::FileSet;
 use crate::kept::Kept;
 use crate::notes::notes_of;
 use crate::recheck::{FilesAgain, Rechecked, recheck_files};
 use crate::telling::{tell, told_again};
+use crate::workers::Workers;
 use jn_base::{Infer, OutOfMemory, Row};
 use jn_command::Report;
 use jn_diag::{RowText, Verdict};
@@ -54,7 +55,7 @@ fn keep(kept: &mut Option<Kept>, new: Option<Kept>)
 pub struct Session {
     alloc: Global,
     infer: Infer,
-    files: Vec<SourceFile>,
+    files: FileSet,
     last: Vec<SourceFile>,
     trees: Vec<Option<KeptTree>>,
     kept: Option<Kept>,
@@ -64,16 +65,15 @@ pub struct Session {
 
 impl Model for Session {
     ghost use Rattle.jn_kept_trees.specs.KeptTrees.{AreKeptTrees};
-    ghost use Rattle.jn_recheck.specs.Files.{AllFit, HaveOwnNames};
     ghost use Rattle.jn_recheck.specs.Sessions.{SessionOf};
     ghost use Rattle.jn_recheck.specs.Told.{IsLastTold};
     ghost use Rattle.jn_recheck.specs.Standing.{StandsOn};
 
     ghost Value = { SessionOf };
 
-    ghost view = { λ s. record { infer = s.infer; files = s.files.items; last = s.last.items; kept = s.kept } };
+    ghost view = { λ s. record { infer = s.infer; files = s.files; last = s.last.items; kept = s.kept } };
 
-    ghost invariant = { λ s. AllFit s.files.items × HaveOwnNames s.files.items × AreKeptTrees s.last.items s.trees.items × IsLastTold s.infer s.last.items s.kept s.told × StandsOn s.infer s.trees.items s.kept s.typing };
+    ghost invariant = { λ s. AreKeptTrees s.last.items s.trees.items × IsLastTold s.infer s.last.items s.kept s.told × StandsOn s.infer s.trees.items s.kept s.typing };
 }
 
 impl Session {
@@ -84,7 +84,7 @@ impl Session {
         Session {
             alloc,
             infer,
-            files: Vec::new(alloc),
+            files: FileSet::new(alloc),
             last: Vec::new(alloc),
             trees: Vec::new(alloc),
             kept: None,
@@ -121,7 +121,7 @@ impl Session {
         ensures last { self.new.last ≡ self.old.last }
         ensures kept { self.new.kept ≡ self.old.kept }
     {
-        set_file(self.alloc, &mut self.files, name, text)
+        self.files.set(self.alloc, name, text)
     }
 
     /// Removes the file of this name; says whether it was there.
@@ -132,7 +132,7 @@ impl Session {
         ensures last { self.new.last ≡ self.old.last }
         ensures kept { self.new.kept ≡ self.old.kept }
     {
-        remove_file(&mut self.files, name)
+        self.files.remove(name)
     }
 
     /// Has these files, with copies of their texts, in place of all that were there.
@@ -148,8 +148,7 @@ impl Session {
         ensures last { self.new.last ≡ self.old.last }
         ensures kept { self.new.kept ≡ self.old.kept }
     {
-        self.files = copy_files(self.alloc, files)?;
-        Ok(())
+        self.files.replace(self.alloc, files)
     }
 
     /// The report of the files, by so many workers; the last one again, where no file has changed. A file whose text is as it was at the last report, at the same
@@ -175,7 +174,7 @@ impl Session {
         let again = told_again(
             alloc,
             self.infer,
-            self.files.as_slice(),
+            &self.files,
             self.last.as_slice(),
             &self.told,
             &self.kept,
@@ -191,7 +190,7 @@ impl Session {
         } = recheck_files(
             rt,
             alloc,
-            workers,
+            Workers::of(workers),
             self.infer,
             self.files.as_slice(),
             self.last.as_slice(),
@@ -202,13 +201,7 @@ impl Session {
             bodies,
         )?;
         let Rechecked { report, kept, made } = found;
-        let told = tell(
-            alloc,
-            self.files.as_slice(),
-            self.last.as_slice(),
-            &report,
-            made,
-        );
+        let told = tell(alloc, &self.files, self.last.as_slice(), &report, made);
         match told {
             Ok((checked, last)) => {
                 self.last = last;

@@ -1,9 +1,10 @@
 //! What is told of a report.
 ghost use Rattle.std.specs.Prelude.{◌≡◌, IfOk, MatchOption};
-ghost use Rattle.jn_recheck.specs.Files.{AllFit, changed};
+ghost use Rattle.jn_recheck.specs.Files.{changed};
 ghost use Rattle.jn_recheck.specs.Sessions.{AreShown, Reports, session_of};
 ghost use Rattle.jn_recheck.specs.Told.{IsLastTold, IsTold};
 
+use crate::file_set::FileSet;
 use crate::files::{changed, copy_files, same_files};
 use crate::kept::Kept;
 use crate::session::Checked;
@@ -16,24 +17,23 @@ use std::alloc::Global;
 /// What a report of the files says, beside what its numbers are.
 fn show(
     alloc: Global,
-    files: &[SourceFile],
+    files: &FileSet,
     last: &[SourceFile],
     report: &Report,
     made: u32,
 ) -> Result<Checked, OutOfMemory>
-    requires fit { AllFit files.now }
     ensures shown { IfOk result (λ t. AreShown files.now report.now t.rows.items t.places.items
         t.verdict) }
     ensures files { IfOk result (λ t. t.files ≡ changed last.now files.now) }
     ensures bodies { IfOk result (λ t. t.bodies ≡ made) }
 {
-    let rows = row_texts(alloc, files, report.rows())?;
+    let rows = row_texts(alloc, files.as_slice(), report.rows())?;
     let places = Vec::from_slice(alloc, report.rows())?;
     Ok(Checked {
         rows,
         places,
         verdict: report.verdict(),
-        files: changed(last, files),
+        files: changed(last, files.as_slice()),
         bodies: made,
     })
 }
@@ -41,12 +41,11 @@ fn show(
 /// What a report of the files says, beside what its numbers are, and a copy of the files.
 pub(crate) fn tell(
     alloc: Global,
-    files: &[SourceFile],
+    files: &FileSet,
     last: &[SourceFile],
     report: &Report,
     made: u32,
 ) -> Result<(Checked, Vec<SourceFile>), OutOfMemory>
-    requires fit { AllFit files.now }
     ensures shown { IfOk result (λ t. AreShown files.now report.now t.0.rows.items t.0.places.items
         t.0.verdict) }
     ensures files { IfOk result (λ t. t.0.files ≡ changed last.now files.now) }
@@ -54,7 +53,7 @@ pub(crate) fn tell(
     ensures copy { IfOk result (λ t. t.1.items ≡ files.now) }
 {
     let checked = show(alloc, files, last, report, made)?;
-    let copy = copy_files(alloc, files)?;
+    let copy = copy_files(alloc, files.as_slice())?;
     Ok((checked, copy))
 }
 
@@ -62,12 +61,11 @@ pub(crate) fn tell(
 fn tell_last(
     alloc: Global,
     infer: Infer,
-    files: &[SourceFile],
+    files: &FileSet,
     last: &[SourceFile],
     report: &Report,
     kept: &Option<Kept>,
 ) -> Result<Checked, OutOfMemory>
-    requires fit { AllFit files.now }
     requires same { last.now ≡ files.now }
     requires told { IsTold infer last.now kept.now report.now }
     ensures { IfOk result (λ t. Reports (session_of infer files.now last.now kept.now)
@@ -84,12 +82,11 @@ fn tell_last(
 pub(crate) fn told_again(
     alloc: Global,
     infer: Infer,
-    files: &[SourceFile],
+    files: &FileSet,
     last: &[SourceFile],
     told: &Option<Report>,
     kept: &Option<Kept>,
 ) -> Result<Option<Checked>, OutOfMemory>
-    requires fit { AllFit files.now }
     requires told { IsLastTold infer last.now kept.now told.now }
     ensures { IfOk result (λ again. MatchOption again (Unit {0}) (λ t.
         Reports (session_of infer files.now last.now kept.now)
@@ -99,7 +96,7 @@ pub(crate) fn told_again(
     match told {
         None => Ok(None),
         Some(report) => {
-            if same_files(last, files) {
+            if same_files(last, files.as_slice()) {
                 Ok(Some(tell_last(alloc, infer, files, last, report, kept)?))
             } else {
                 Ok(None)

@@ -1,4 +1,4 @@
-use Rattle.std.proofs.Common.{length-set, rules}
+use Rattle.std.proofs.Common.{length-set}
 use Rattle.jn_again.proofs.Gone.{more_bits, new_bits}
 use Rattle.jn_again.proofs.masks.add_bits.Goals as goal
 

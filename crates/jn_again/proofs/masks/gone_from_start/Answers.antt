@@ -1,4 +1,4 @@
-use Rattle.std.proofs.Common.{ℕ, bit_and, bit_or, bit_xor}
+use Rattle.std.proofs.Common.{bit_and, bit_or, bit_xor}
 use Rattle.std.specs.Prelude.{slice_index}
 use Rattle.jn_sigtable.specs.System.{Within}
 use Rattle.jn_again.proofs.Gone.{each_more, first_lost}

@@ -1,5 +1,4 @@
-use Rattle.std.proofs.Common.{bit_or, eqb-true, sym, subst}
-use Rattle.jn_sigtable.specs.System.{Within}
+use Rattle.std.proofs.Common.{bit_or, eqb-true}
 use Rattle.jn_resume.proofs.AtRest.{or_same}
 use Rattle.jn_again.proofs.Gone.{same_or}
 use Rattle.jn_again.proofs.masks.is_one_gone.Goals as goal

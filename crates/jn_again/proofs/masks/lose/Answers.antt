@@ -1,4 +1,4 @@
-use Rattle.std.proofs.Common.{◌≡◌, ℕ, ◌<◌, length, get_or, bit_and, bit_or, bit_xor, sym, subst, arith}
+use Rattle.std.proofs.Common.{◌≡◌, ℕ, ◌<◌, length, get_or, bit_or, sym, subst, arith}
 use Rattle.std.specs.Prelude.{slice_index}
 use Rattle.jn_sigtable.specs.System.{Within, bits_for}
 use Rattle.jn_resume.proofs.AtRest.{output_at}
