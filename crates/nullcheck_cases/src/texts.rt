@@ -1,25 +1,11 @@
-//! Reads the tables that the words name, and prints each case with what becomes of its text; of a file of Java it prints the bodies of its program
-//! with their points.
-#![tactic(auto)]
-
-mod case;
-mod expressions;
-mod files;
-mod lowered;
-mod outcome;
-mod page;
-mod places;
-mod points;
-mod shape;
-mod source;
-mod tokens;
-
-use case::answer;
-use files::files_text;
-use points::outcome::file_text;
+//! Prints each line of a table with what becomes of its text, and of a file of Java the bodies of its program with their points.
+use jn_shown_texts::{answer, file_text, files_text};
 use std::alloc::AllocError;
 use std::thread::Threads;
-use std::{env, fs, io};
+use std::{fs, io};
+
+/// The folder of these tables.
+pub const FOLDER: &str = "texts/";
 
 /// The workers and the two files of a line such as `files=2 Empty.java Stack.java`.
 fn files_of(line: &str) -> Option<(u32, &str, &str)> {
@@ -48,9 +34,8 @@ fn line_answer<R: Threads + Sync>(rt: &HostRuntime, threads: &R, line: &str) -> 
     }
 }
 
-/// Prints each case of a table with its answer.
-fn show_table<R: Threads + Sync>(rt: &HostRuntime, threads: &R, table: &str) -> io::Result<()> {
-    let text = fs::read_to_string(rt, table)?;
+/// Prints each line of a table with its answer.
+fn show_table<R: Threads + Sync>(rt: &HostRuntime, threads: &R, text: &str) -> io::Result<()> {
     for line in text.lines() {
         let shown = line_answer(rt, threads, line)?;
         println!(rt; "{line} => {shown}")?;
@@ -59,21 +44,28 @@ fn show_table<R: Threads + Sync>(rt: &HostRuntime, threads: &R, table: &str) -> 
 }
 
 /// Prints the bodies of a file's program.
-fn show_points<R: Threads + Sync>(rt: &HostRuntime, threads: &R, name: &str) -> io::Result<()> {
-    let text = fs::read(rt, name)?;
-    match file_text(threads, rt.alloc(), &text) {
+fn show_points<R: Threads + Sync>(
+    rt: &HostRuntime,
+    threads: &R,
+    name: &str,
+    text: &str,
+) -> io::Result<()> {
+    match file_text(threads, rt.alloc(), text.as_bytes()) {
         Ok(shown) => println!(rt; "== {name}{shown}"),
         Err(_) => Err(io::Error::from(AllocError)),
     }
 }
 
-fn main(rt: HostRuntime) -> io::Result<()> {
-    for name in env::args(&rt)?.skip(1) {
-        if name.ends_with(".java") {
-            show_points(&rt, &rt, name.as_str())?;
-        } else {
-            show_table(&rt, &rt, name.as_str())?;
-        }
+/// Prints the lines of the table of this name and text, or the bodies of this file of Java.
+pub fn show<R: Threads + Sync>(
+    rt: &HostRuntime,
+    threads: &R,
+    name: &str,
+    text: &str,
+) -> io::Result<()> {
+    if name.ends_with(".java") {
+        show_points(rt, threads, name, text)
+    } else {
+        show_table(rt, threads, text)
     }
-    Ok(())
 }
