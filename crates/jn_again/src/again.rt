@@ -1,5 +1,5 @@
 //! Solving again.
-ghost use Rattle.std.specs.Prelude.{◌≡◌, ◌<◌, ◌≤◌, IfOk, List, ℕ, length, true};
+ghost use Rattle.std.specs.Prelude.{◌≡◌, ◌<◌, IfOk, List, ℕ, length, true};
 ghost use Rattle.jn_contrib.specs.Entries.{AreOverriders};
 ghost use Rattle.jn_inference_law.specs.Solution.{IsLeastSignature};
 ghost use Rattle.jn_recheck_law.specs.Alike.{SameDeclarations};
@@ -20,7 +20,7 @@ use jn_base::OutOfMemory;
 use jn_contrib::Overrider;
 use jn_env::OwnFields;
 use jn_points::Program;
-use jn_sharing::Gate;
+use jn_sharing::{Gate, Workers};
 use jn_sigs::{Sig, start};
 use jn_system::signature::signature;
 use jn_system::solving::are_few;
@@ -148,7 +148,7 @@ pub fn solve_again<R: Threads + Sync, G: Gate + Sync>(
     overriders: &[Overrider],
     same: bool,
     known: &[bool],
-    workers: u32,
+    workers: Workers,
     gate: &G,
 ) -> Result<Sig, OutOfMemory>
     requires same { same ≡ true → SameDeclarations earlier.now.names.now names.now
@@ -159,7 +159,6 @@ pub fn solve_again<R: Threads + Sync, G: Gate + Sync>(
     requires old_list { AreOverriders earlier.now.program.now earlier.now.overriders.now }
     requires inferable { IsInferable program.now }
     requires list { AreOverriders program.now overriders.now }
-    requires workers { (0 < workers) × (workers ≤ 16) }
     ensures { IfOk result (λ sig. IsLeastSignature program.now sig) }
 {
     let _names = names;

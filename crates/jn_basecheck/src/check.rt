@@ -1,5 +1,5 @@
 //! Base typing of a program.
-ghost use Rattle.std.specs.Prelude.{◌≡◌, ◌≤◌, ◌↔◌, Contains, IfOk, IfErr};
+ghost use Rattle.std.specs.Prelude.{◌≡◌, ◌↔◌, Contains, IfOk, IfErr};
 ghost use Rattle.jn_base.specs.declared.place.Row.{Row as RowOf};
 ghost use Rattle.jn_points.specs.BaseRows.{IsBaseRow, NoBaseRows};
 ghost use Rattle.jn_points.specs.Regular.{Regular};
@@ -10,6 +10,7 @@ use crate::sharing::all_rows;
 use jn_base::{Fail, Row};
 use jn_index::BaseTyped;
 use jn_index::indexed::IndexedProgram;
+use jn_sharing::Workers;
 use std::alloc::Global;
 use std::thread::Threads;
 
@@ -43,10 +44,9 @@ pub fn base_check<R: Threads + Sync>(
     rt: &R,
     alloc: Global,
     program: IndexedProgram,
-    workers: u32,
+    workers: Workers,
 ) -> Result<BaseTyped, Fail<Vec<Row>>>
     requires regular { Regular program }
-    requires workers { (1 ≤ workers) × (workers ≤ 16) }
     ensures program { IfOk result (λ typed. typed ≡ program) }
     ensures typed { IfOk result (λ typed. NoBaseRows program) }
     ensures refused { IfErr result (λ fail. IsRefusedFor program fail) }
@@ -63,16 +63,15 @@ pub fn base_check_others<R: Threads + Sync>(
     alloc: Global,
     program: IndexedProgram,
     typed: &[bool],
-    workers: u32,
+    workers: Workers,
 ) -> Result<BaseTyped, Fail<Vec<Row>>>
     requires regular { Regular program }
     requires typed { AreTyped program typed.now }
-    requires workers { (1 ≤ workers) × (workers ≤ 16) }
     ensures program { IfOk result (λ typed. typed ≡ program) }
     ensures typed { IfOk result (λ typed. NoBaseRows program) }
     ensures refused { IfErr result (λ fail. IsRefusedFor program fail) }
 {
-    match all_rows(rt, alloc, &program, typed, workers) {
+    match all_rows(rt, alloc, &program, typed, workers.count()) {
         Err(_) => {
             drop(program);
             Err(Fail::OutOfMemory)

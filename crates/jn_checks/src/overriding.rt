@@ -3,15 +3,13 @@
 ghost use Rattle.std.specs.Prelude.{◌≡◌, ◌<◌, ◌^◌, ◌++◌, ℕ, true, Some, flat_map, slice_index, IfOk, OnOk, length, not};
 ghost use Rattle.jn_points.specs.Lookup.{method_at};
 ghost use Rattle.jn_points.specs.Members.{below, is_pair};
-ghost use Rattle.jn_index.specs.Index.{IsIndex};
 ghost use Rattle.jn_quals.specs.Order.{within};
 ghost use Rattle.jn_sigs.specs.Signature.{slot_quals};
 ghost use Rattle.jn_transfer.specs.Rules as spec;
 
 use crate::rules::push_if;
 use jn_base::{Code, MethodNo, OutOfMemory, Row, SlotNo, either, least};
-use jn_index::index::Index;
-use jn_index::indexed::IndexedProgram;
+use jn_index::indexed::{Indexed, IndexedProgram};
 use jn_index::overridden::overridden;
 use jn_points::lookup::method_at;
 use jn_points::{Method, Program, is_pair};
@@ -166,21 +164,19 @@ fn push_some(
 fn push_all_found(
     rows: &mut Vec<Row>,
     alloc: Global,
-    program: &Program,
-    index: &Index,
+    program: &Indexed,
     sig: &Sig,
     m: u32,
     over: &Method,
 ) -> Result<(), AllocError>
-    requires is { IsIndex program.now index.now }
     requires there { method_at program.now m ≡ Some over.now }
     ensures { OnOk result (rows.new.items
         ≡ rows.old.items
         ++ flat_map (spec.pair_rows program.now sig.now m)
         (below (length program.now.methods))) }
 {
-    let pairs = overridden(alloc, program, index, m, over)?;
-    push_some(rows, program, sig, m, over, pairs.as_slice())
+    let pairs = overridden(alloc, program, m, over)?;
+    push_some(rows, program.program(), sig, m, over, pairs.as_slice())
 }
 
 /// The rows of all overriding pairs of the program, by its index.
@@ -190,18 +186,16 @@ fn push_all_found(
 #[tactic(auto, using(crate::proofs::Pairs::rows_more))]
 pub fn indexed_override_rows(
     alloc: Global,
-    program: &Program,
-    index: &Index,
+    program: &Indexed,
     sig: &Sig,
 ) -> Result<Vec<Row>, AllocError>
-    requires is { IsIndex program.now index.now }
-    requires methods { length program.now.methods < 2 ^ 32 }
     ensures { IfOk result (λ rows. rows.items ≡ spec.pairs_rows program.now sig.now) }
 {
+    program.facts();
     let mut rows = Vec::new(alloc);
-    let methods = program.methods.as_slice();
+    let methods = program.program().methods.as_slice();
     for (m, over) in methods.iter().enumerate() {
-        push_all_found(&mut rows, alloc, program, index, sig, m as u32, over)?;
+        push_all_found(&mut rows, alloc, program, sig, m as u32, over)?;
     }
     Ok(rows)
 }
@@ -233,8 +227,8 @@ pub fn override_rows(
     requires methods { length program.now.methods < 2 ^ 32 }
     ensures { IfOk result (λ rows. rows.items ≡ spec.pairs_rows program.now sig.now) }
 {
-    match program.index() {
+    match program.indexed() {
         None => Ok(all_rows(alloc, program.program(), sig)?),
-        Some(index) => Ok(indexed_override_rows(alloc, program.program(), index, sig)?),
+        Some(indexed) => Ok(indexed_override_rows(alloc, &indexed, sig)?),
     }
 }

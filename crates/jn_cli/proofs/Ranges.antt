@@ -1,12 +1,12 @@
 -- The numbers of a command lie in the ranges of their options.
-use Rattle.std.proofs.Common.{◌≡◌, ◌∙◌, ℕ, ◌≤◌, Bool, true, false, List, Option, Some, None, refl, sym, ap, subst, arith}
+use Rattle.std.proofs.Common.{◌≡◌, ℕ, ◌≤◌, Bool, true, false, List, Option, Some, None, refl, sym, subst, arith}
 use Rattle.std.specs.Prelude.{◌&&◌, ◌||◌, not, nat_le, unwrap_or}
 use Rattle.std.specs.Option.{option_map_or}
 use Rattle.std.proofs.lemmas.Bool.Decides.{nat_tests}
 use Rattle.jn_cli.specs.declared.command.Command.{Command}
 use Rattle.jn_cli.specs.declared.options.Options.{Options}
 use Rattle.jn_cli.specs.Tables.{is_chosen}
-use Rattle.jn_cli.specs.Words.{are_refused, command_of, fits, has_bad_value, is_address, is_bad_mix, is_report, is_within, number_of, number_or}
+use Rattle.jn_cli.specs.Words.{are_refused, command_of, fits, is_address, is_bad_mix, is_report, is_within, number_of, number_or}
 
 no_flag : true ≡ false → ⊥
 no_flag e = cc
@@ -36,10 +36,14 @@ at_most : (least most default : ℕ) (text : Option (List ℕ)) → default ≤ 
 at_most least most default None high e = high
 at_most least most default (Some t) high e = (numbered least most default (number_of t) e).1
 
+-- the command's workers are as many as there may be
+pub workers_in_range : (o : Options) → are_refused o ≡ false → (1 ≤ number_or 4 o.workers) × (number_or 4 o.workers ≤ 16)
+workers_in_range o taken = in_range 1 16 4 o.workers (omega arith) (omega arith) (all_fit o taken).0
+
 module _ (o : Options) (c : Command) (taken : are_refused o ≡ false) (is : c ≡ command_of o) where
   pub workers_fit : (1 ≤ c.workers) × (c.workers ≤ 16)
   unfolding command_of
-  workers_fit = subst (λ (x : Command). (1 ≤ x.workers) × (x.workers ≤ 16)) (sym is) (in_range 1 16 4 o.workers (omega arith) (omega arith) (all_fit o taken).0)
+  workers_fit = subst (λ (x : Command). (1 ≤ x.workers) × (x.workers ≤ 16)) (sym is) (workers_in_range o taken)
 
   pub steps_fit : (1 ≤ c.steps) × (c.steps ≤ 1000000000)
   unfolding command_of

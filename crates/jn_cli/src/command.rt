@@ -9,13 +9,13 @@ use crate::number::number_or;
 use crate::options::{Options, are_refused};
 use crate::parse::read_options;
 use jn_base::{Fail, Infer, OutOfMemory, Seq, Text};
+use jn_sharing::Workers;
 use std::alloc::{AllocError, Global};
 
 /// What the program is to do.
 #[derive(Drop)]
 pub struct Command {
-    /// 1 to 16.
-    pub workers: u32,
+    pub workers: Workers,
     /// The name of the reporter that shows the report, not empty; `plain` where none is given.
     pub report: Text,
     /// The members that are inferred where nothing is written; private ones where nothing is said.
@@ -62,14 +62,15 @@ pub fn read_words(alloc: Global, words: &[String]) -> Result<Command, Fail<Usage
 
 #[tactic(auto, unfolding(crate::specs::Words::command_of))]
 fn command_from(alloc: Global, options: Options) -> Result<Command, OutOfMemory>
-    requires workers { spec.number_or 4 options.workers < 2 ^ 32 }
+    requires workers { (1 ≤ spec.number_or 4 options.workers)
+        × (spec.number_or 4 options.workers ≤ 16) }
     requires classes { spec.number_or 0 options.classes < 2 ^ 32 }
     ensures { IfOk result (λ c. c ≡ spec.command_of options) }
 {
     let report = text_or(alloc, &options.report, "plain")?;
     let words = text_or(alloc, &options.words, "")?;
     Ok(Command {
-        workers: number_or(&options.workers, 4) as u32,
+        workers: Workers::of(number_or(&options.workers, 4) as u32),
         report,
         infer: infer_of(&options.infer),
         run: options.run,

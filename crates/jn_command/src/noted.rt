@@ -1,7 +1,6 @@
 //! Notes of a report's rows, as a reporter is given them.
-ghost use Rattle.std.specs.Prelude.{◌≡◌, ◌≤◌, List, length, None, Some, IfOk};
+ghost use Rattle.std.specs.Prelude.{◌≡◌, List, None, Some, IfOk};
 ghost use Rattle.jn_base.specs.declared.place.Span.{Span as SpecSpan};
-ghost use Rattle.jn_front.specs.Counted.{ReadsFit};
 ghost use Rattle.jn_front.specs.Files.{files_of_reads};
 ghost use Rattle.jn_command.specs.declared.noted.Noted.{Noted as SpecNoted};
 ghost use Rattle.jn_command.specs.Shown.{no_notes, note_of, note_of_file, noted_at};
@@ -60,7 +59,6 @@ fn note_in(
     words: &[u8],
     span: &Span,
 ) -> Result<ShownNote, OutOfMemory>
-    requires { length read.now.file.bytes ≤ 1048576 }
     ensures { IfOk result
         (λ note. note ≡ note_of_file (Some read.now.file) joined ends words.now span.now) }
 {
@@ -114,7 +112,6 @@ pub fn note_of(
     words: &[u8],
     span: &Span,
 ) -> Result<ShownNote, OutOfMemory>
-    requires { ReadsFit reads.now }
     ensures { IfOk result
         (λ note. note ≡ note_of (files_of_reads reads.now) joined ends words.now span.now) }
 {

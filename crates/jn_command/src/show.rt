@@ -1,9 +1,8 @@
 //! A report, as a reporter takes it.
-ghost use Rattle.std.specs.Prelude.{◌≡◌, ◌⊎◌, ◌≤◌, ◌<◌, ◌∷◌, ◌++◌, [], length, map, None, Some, IfOk};
+ghost use Rattle.std.specs.Prelude.{◌≡◌, ◌⊎◌, ◌<◌, ◌∷◌, ◌++◌, [], map, None, Some, IfOk};
 ghost use Rattle.jn_base.specs.declared.code.Code.TheVariants.{B1};
 ghost use Rattle.jn_diag.specs.Shown.{row_shown};
 ghost use Rattle.jn_diag.specs.Sweep.{IsPosition};
-ghost use Rattle.jn_front.specs.Counted.{ReadsFit};
 ghost use Rattle.jn_front.specs.Files.{files_of_reads};
 ghost use Rattle.jn_front.specs.Limits.{row_at};
 ghost use Rattle.jn_command.specs.Reports.{rows_of, verdict_of};
@@ -50,7 +49,6 @@ fn text_in(
     row: &Row,
     position: &mut Position,
 ) -> Result<RowText, OutOfMemory>
-    requires fits { length read.now.file.bytes ≤ 1048576 }
     requires is { IsPosition read.now.file.bytes position.old }
     ensures shown { IfOk result
         (λ t. t ≡ row_shown read.now.file.name read.now.file.bytes row.now) }
@@ -79,7 +77,6 @@ fn row_in<'a>(
     noted: &'a Noted,
     position: &mut Position,
 ) -> Result<RowView<'a>, OutOfMemory>
-    requires fits { length read.now.file.bytes ≤ 1048576 }
     requires is { IsPosition read.now.file.bytes position.old }
     ensures shown { IfOk result
         (λ t. t
@@ -101,7 +98,6 @@ fn row_in<'a>(
 
 /// The place of what stands after the row, of a file that was read; it is sought from the position on.
 fn end_in(read: &SourceRead, row: &Row, position: Position) -> jn_base::Place
-    requires fits { length read.now.file.bytes ≤ 1048576 }
     requires is { IsPosition read.now.file.bytes position }
     ensures { result ≡ end_in row.now.code read.now.file.bytes row.now.span }
 {
@@ -136,7 +132,6 @@ fn row_of<'a>(
     noted: &'a Noted,
     place: &mut Place,
 ) -> Result<RowView<'a>, OutOfMemory>
-    requires fit { ReadsFit reads.now }
     requires is { IsPlace reads.now place.old }
     ensures shown { IfOk result
         (λ t. t ≡ with_notes (row_of (files_of_reads reads.now) row.now) noted.now) }
@@ -159,7 +154,6 @@ pub fn show_noted<P: Reporter, N: Notes>(
     notes: &N,
     reporter: P,
 ) -> Result<P, OutOfMemory>
-    requires fit { ReadsFit reads.now }
     ensures rows { IfOk result (λ shower. (P.form shower).rows
         ≡ (P.form reporter).rows
         ++ rows_with (files_of_reads reads.now) (N.told notes.now) (rows_of report.now)) }
@@ -190,7 +184,6 @@ pub fn show<P: Reporter>(
     report: &Report,
     reporter: P,
 ) -> Result<P, OutOfMemory>
-    requires fit { ReadsFit reads.now }
     ensures rows { IfOk result (λ shower. (P.form shower).rows
         ≡ (P.form reporter).rows ++ map (row_of (files_of_reads reads.now)) (rows_of report.now)) }
     ensures verdict { IfOk result (λ shower. P.given shower ≡ Some (verdict_of report.now)) }

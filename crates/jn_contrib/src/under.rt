@@ -49,8 +49,8 @@ pub fn under_of(
     requires methods { length program.now.methods < 2 ^ 32 }
     ensures { IfOk result (λ ks. ks.items ≡ under program.now m) }
 {
-    match program.index() {
+    match program.indexed() {
         None => all_under(alloc, program.program(), m),
-        Some(index) => overridden(alloc, program.program(), index, m, over),
+        Some(indexed) => overridden(alloc, &indexed, m, over),
     }
 }

@@ -6,8 +6,8 @@ use Rattle.jn_points.specs.declared.program.Method.{Method}
 use Rattle.jn_points.specs.declared.program.Program.{Program}
 use Rattle.jn_points.specs.Lookup.{method_at}
 use Rattle.jn_points.specs.Members.{below, class_pair, class_pairs, interface_pairs, in_interface, is_named, is_pair, pairs_of, some_of, sub, walk}
-use Rattle.jn_member_tables.specs.Numbers.{contains, list_at, passes}
-use Rattle.jn_index.specs.Index.{Lists, IsIndex}
+use Rattle.jn_member_tables.specs.Numbers.{contains, list_at, passes, places_of}
+use Rattle.jn_index.specs.Index.{owners, Lists, IsIndex}
 use Rattle.jn_index.specs.Users.{AreUsers, has_method}
 use Rattle.jn_index.specs.Busy.{is_busy}
 use Rattle.jn_index.proofs.Busied.{busy_partner}
@@ -54,13 +54,13 @@ module _ (P : Program) (x : Lists) (is : IsIndex P x) (over : Method) (inside : 
     hidden_busy : (k : ℕ) (y : Method) → method_at P k ≡ Some y → (over_static P over y && not (hides_well P over y)) ≡ true → is_busy P x.own x.named y.owner.0 ≡ true
     hidden_busy k y at h = busy_partner P x is k y at m over there (hidden_parts P m over there y h).0 (hidden_other P m over there k y at h)
 
-    hides_along : some_of (λ d. some_of (λ k. passes (λ y. over_static P over y && not (hides_well P over y)) (method_at P k)) (list_at x.own d)) (candidates x over.owner.0 users) ≡ hides_badly P over
+    hides_along : some_of (λ d. some_of (λ k. passes (λ y. over_static P over y && not (hides_well P over y)) (method_at P k)) (places_of d 0 (owners P.methods))) (candidates x over.owner.0 users) ≡ hides_badly P over
     hides_along =
-        along_classes P x is (λ k y. over_static P over y && not (hides_well P over y)) (candidates x over.owner.0 users) (λ k y at h. above_own users y.owner.0 (hidden_busy k y at h) (hidden y h))
+        along_classes P (λ k y. over_static P over y && not (hides_well P over y)) (candidates x over.owner.0 users) (λ k y at h. above_own users y.owner.0 (hidden_busy k y at h) (hidden y h))
         ∙ some_at_of (λ y. over_static P over y && not (hides_well P over y)) 0 P.methods
 
-    pub hides_by : (classes : List ℕ) → classes ≡ candidates x over.owner.0 users → some_of (λ d. some_of (λ k. passes (λ y. over_static P over y && not (hides_well P over y)) (method_at P k)) (list_at x.own d)) classes ≡ hides_badly P over
-    hides_by classes e = subst (λ ds. some_of (λ d. some_of (λ k. passes (λ y. over_static P over y && not (hides_well P over y)) (method_at P k)) (list_at x.own d)) ds ≡ hides_badly P over) (sym e) hides_along
+    pub hides_by : (classes : List ℕ) → classes ≡ candidates x over.owner.0 users → some_of (λ d. some_of (λ k. passes (λ y. over_static P over y && not (hides_well P over y)) (method_at P k)) (places_of d 0 (owners P.methods))) classes ≡ hides_badly P over
+    hides_by classes e = subst (λ ds. some_of (λ d. some_of (λ k. passes (λ y. over_static P over y && not (hides_well P over y)) (method_at P k)) (places_of d 0 (owners P.methods))) ds ≡ hides_badly P over) (sym e) hides_along
 
     user_inside : (c : ℕ) → contains users c ≡ true → c < length P.classes
     user_inside c u = by (true_or_not (ltb c (length P.classes)))
@@ -90,8 +90,8 @@ module _ (P : Program) (x : Lists) (is : IsIndex P x) (over : Method) (inside : 
             above_user users c.0 y.owner.0 (user_inside c.0 c.1) busy c.1 c.2
         by busy (inr e) = above_own users y.owner.0 busy (and_true (in_interface P over && in_interface P y && not (eqb over.owner.0 y.owner.0)) (sub P over.owner.0 y.owner.0) e).1
 
-    pub overrides_along : some_of (λ d. some_of (λ k. passes (λ y. is_pair P m k && not (agrees P over y)) (method_at P k)) (list_at x.own d)) (candidates x over.owner.0 users) ≡ overrides_badly P m over
-    overrides_along = along_classes P x is (λ k y. is_pair P m k && not (agrees P over y)) (candidates x over.owner.0 users) (λ k y at h. pair_above k y at (and_true (is_pair P m k) (not (agrees P over y)) h).0)
+    pub overrides_along : some_of (λ d. some_of (λ k. passes (λ y. is_pair P m k && not (agrees P over y)) (method_at P k)) (places_of d 0 (owners P.methods))) (candidates x over.owner.0 users) ≡ overrides_badly P m over
+    overrides_along = along_classes P (λ k y. is_pair P m k && not (agrees P over y)) (candidates x over.owner.0 users) (λ k y at h. pair_above k y at (and_true (is_pair P m k) (not (agrees P over y)) h).0)
 
-    pub overrides_by : (classes : List ℕ) → classes ≡ candidates x over.owner.0 users → some_of (λ d. some_of (λ k. passes (λ y. is_pair P m k && not (agrees P over y)) (method_at P k)) (list_at x.own d)) classes ≡ overrides_badly P m over
-    overrides_by classes e = subst (λ ds. some_of (λ d. some_of (λ k. passes (λ y. is_pair P m k && not (agrees P over y)) (method_at P k)) (list_at x.own d)) ds ≡ overrides_badly P m over) (sym e) overrides_along
+    pub overrides_by : (classes : List ℕ) → classes ≡ candidates x over.owner.0 users → some_of (λ d. some_of (λ k. passes (λ y. is_pair P m k && not (agrees P over y)) (method_at P k)) (places_of d 0 (owners P.methods))) classes ≡ overrides_badly P m over
+    overrides_by classes e = subst (λ ds. some_of (λ d. some_of (λ k. passes (λ y. is_pair P m k && not (agrees P over y)) (method_at P k)) (places_of d 0 (owners P.methods))) ds ≡ overrides_badly P m over) (sym e) overrides_along

@@ -7,8 +7,8 @@ use Rattle.jn_points.specs.declared.program.Program.{Program}
 use Rattle.jn_points.specs.Lookup.{field_info}
 use Rattle.jn_points.specs.Members.{some_of, first_or, first_some, walk, reaches}
 use Rattle.jn_member_tables.specs.declared.tables.Entry.{Entry}
-use Rattle.jn_member_tables.specs.Numbers.{list_at, places_of, contains}
-use Rattle.jn_index.specs.Index.{Lists, IsIndex, field_owners}
+use Rattle.jn_member_tables.specs.Numbers.{places_of, contains}
+use Rattle.jn_index.specs.Index.{field_owners}
 use Rattle.jn_index.specs.Entries.{IsListed}
 use Rattle.jn_member_tables.specs.Tables.{Trees, find_in, first_entry, entries_at, offers, SmallKeys, IsTable}
 use Rattle.jn_index.proofs.Offers.{past_list, small_append}
@@ -70,18 +70,17 @@ module _ (P : Program) (n d name : ℕ) (low : name < n) where
   entries_found [] = refl
   entries_found (k ∷ ks) = entry_found (field_info P k) (owner_entries P n d ks) (some_of (λ k. there fits (slice_get P.fields k)) ks) (entries_found ks)
 
-  listed_declares : (own : List (List ℕ)) → ((c : ℕ) → list_at own c ≡ places_of c 0 (field_owners P.fields)) → some_of (λ k. there fits (slice_get P.fields k)) (list_at own d) ≡ declares P d name
-  listed_declares own are =
-      ap (some_of (λ k. there fits (slice_get P.fields k))) (are d)
-      ∙ (some_listed P.fields (λ (y : Field). y.owner.0) d (λ k (y : Field). fits y) (λ k y e. ap (λ b. b && eqb y.name.0 name) e)
-      ∙ some_at_any fits 0 P.fields)
+  listed_declares : some_of (λ k. there fits (slice_get P.fields k)) (places_of d 0 (field_owners P.fields)) ≡ declares P d name
+  listed_declares =
+      some_listed P.fields (λ (y : Field). y.owner.0) d (λ k (y : Field). fits y) (λ k y e. ap (λ b. b && eqb y.name.0 name) e)
+      ∙ some_at_any fits 0 P.fields
 
-module _ (P : Program) (x : Lists) (is : IsIndex P x) (n : ℕ) (all : List (List Entry)) (listed : IsListed (length P.classes) (λ d. owner_entries P n d (list_at x.own_fields d)) all) where
+module _ (P : Program) (n : ℕ) (all : List (List Entry)) (listed : IsListed (length P.classes) (λ d. owner_entries P n d (places_of d 0 (field_owners P.fields))) all) where
   pub small_owners : (c : ℕ) → SmallKeys n (entries_at all c)
   small_owners c = by (true_or_not (ltb c (length P.classes)))
     where
       by : (ltb c (length P.classes) ≡ true) ⊎ (ltb c (length P.classes) ≡ false) → SmallKeys n (entries_at all c)
-      by (inl e) = subst (SmallKeys n) (sym (listed.lists c (ltb-true c (length P.classes) e))) (small_entries P n c (list_at x.own_fields c))
+      by (inl e) = subst (SmallKeys n) (sym (listed.lists c (ltb-true c (length P.classes) e))) (small_entries P n c (places_of c 0 (field_owners P.fields)))
       by (inr e) =
           let high : length P.classes ≤ c = grind arith in
           let long = listed.long in
@@ -90,8 +89,8 @@ module _ (P : Program) (x : Lists) (is : IsIndex P x) (n : ℕ) (all : List (Lis
   offered : (d name : ℕ) → d < length P.classes → name < n → offers all name d ≡ cond (declares P d name) (Some d) None
   offered d name lt low =
       ap (λ es. first_entry es name) (listed.lists d lt)
-      ∙ (entries_found P n d name low (list_at x.own_fields d)
-      ∙ ap (λ b. cond b (Some d) None) (listed_declares P n d name low x.own_fields is.fields_are))
+      ∙ (entries_found P n d name low (places_of d 0 (field_owners P.fields))
+      ∙ ap (λ b. cond b (Some d) None) (listed_declares P n d name low))
 
   nothing : (b : Bool) (d : ℕ) → cond b (Some d) None ≡ None → b ≡ false
   nothing true d h = cc

@@ -42,22 +42,22 @@ in_places key i (x ∷ ks) zero at =
     subst (λ b. contains (cond b (i ∷ []) [] ++ places_of key (i + 1) ks) (i + 0) ≡ true) (sym (eq-eqb x key same)) (or_left (eqb i (i + 0)) (contains (places_of key (i + 1) ks) (i + 0)) (eq-eqb i (i + 0) (omega arith)))
 in_places key i (x ∷ ks) (suc k) at = member_append (i + suc k) (cond (eqb x key) (i ∷ []) []) (places_of key (i + 1) ks) (inr (subst (λ n. contains (places_of key (i + 1) ks) n ≡ true) (let e : i + 1 + k ≡ i + suc k = omega arith in e) (in_places key (i + 1) ks k at)))
 
-module _ (P : Program) (x : Lists) (is : IsIndex P x) (t : ℕ → Method → Bool) where
+module _ (P : Program) (t : ℕ → Method → Bool) where
   abbrev pub passing : ℕ → Bool
   passing k = passes (t k) (method_at P k)
 
   -- a method of the class passes
   abbrev pub among : ℕ → Bool
-  among d = some_of passing (list_at x.own d)
+  among d = some_of passing (places_of d 0 (owners P.methods))
 
   pub among_own : (k : ℕ) (y : Method) → method_at P k ≡ Some y → t k y ≡ true → among y.owner.0 ≡ true
   among_own k y at h =
       let there : contains (places_of y.owner.0 0 (owners P.methods)) (0 + k) ≡ true = in_places y.owner.0 0 (owners P.methods) k (get_map (λ (m : Method). m.owner.0) P.methods k y at) in
-      let own : contains (list_at x.own y.owner.0) k ≡ true = subst (λ ks. contains ks k ≡ true) (sym (is.own_is y.owner.0)) (subst (λ n. contains (places_of y.owner.0 0 (owners P.methods)) n ≡ true) (let e : 0 + k ≡ k = omega arith in e) there) in
-      contained_some passing (list_at x.own y.owner.0) k own (ap (passes (t k)) at ∙ h)
+      let own : contains (places_of y.owner.0 0 (owners P.methods)) k ≡ true = subst (λ n. contains (places_of y.owner.0 0 (owners P.methods)) n ≡ true) (let e : 0 + k ≡ k = omega arith in e) there in
+      contained_some passing (places_of y.owner.0 0 (owners P.methods)) k own (ap (passes (t k)) at ∙ h)
 
   pub among_some : (d : ℕ) → among d ≡ true → some_at t 0 P.methods ≡ true
-  among_some d h = let k = some_contained passing (list_at x.own d) h in by k.0 (method_at P k.0) refl k.2
+  among_some d h = let k = some_contained passing (places_of d 0 (owners P.methods)) h in by k.0 (method_at P k.0) refl k.2
     where
       by : (k : ℕ) (o : Option Method) → method_at P k ≡ o → passes (t k) o ≡ true → some_at t 0 P.methods ≡ true
       by k None e h = cc
@@ -103,5 +103,5 @@ in_its_walk P c name arity k y at h = by (method_of P c name arity) refl h
     by (Some j) e h = found j e (eqb-true j k h)
 
 -- T6: a class's abstract methods stand in busy classes of its walk
-pub lacking_in_walk : (P : Program) (x : Lists) (c : ℕ) → IsIndex P x → c < length P.classes → some_of (λ d. some_of (λ k. passes (λ (y : Method). y.is_abstract && is_number (method_of P c y.name.0 (length y.params)) k) (method_at P k)) (list_at x.own d)) (list_at x.walks c) ≡ some_at (λ m y. y.is_abstract && is_number (method_of P c y.name.0 (length y.params)) m) 0 P.methods
-lacking_in_walk P x c is l = along_classes P x is (λ k y. y.is_abstract && is_number (method_of P c y.name.0 (length y.params)) k) (list_at x.walks c) (λ k y at h. (let both = and_true y.is_abstract (is_number (method_of P c y.name.0 (length y.params)) k) h in is.walks_have c y.owner.0 l (busy_abstract P x is k y at both.0) (in_its_walk P c y.name.0 (length y.params) k y at both.1)))
+pub lacking_in_walk : (P : Program) (x : Lists) (c : ℕ) → IsIndex P x → c < length P.classes → some_of (λ d. some_of (λ k. passes (λ (y : Method). y.is_abstract && is_number (method_of P c y.name.0 (length y.params)) k) (method_at P k)) (places_of d 0 (owners P.methods))) (list_at x.walks c) ≡ some_at (λ m y. y.is_abstract && is_number (method_of P c y.name.0 (length y.params)) m) 0 P.methods
+lacking_in_walk P x c is l = along_classes P (λ k y. y.is_abstract && is_number (method_of P c y.name.0 (length y.params)) k) (list_at x.walks c) (λ k y at h. (let both = and_true y.is_abstract (is_number (method_of P c y.name.0 (length y.params)) k) h in is.walks_have c y.owner.0 l (busy_abstract P x is k y at both.0) (in_its_walk P c y.name.0 (length y.params) k y at both.1)))

@@ -4,17 +4,17 @@ ghost use Rattle.std.specs.Prelude.{◌≡◌, ◌<◌, ◌^◌, ◌++◌, lengt
 ghost use Rattle.jn_points.specs.Lookup.{class_info, field_info};
 ghost use Rattle.jn_points.specs.Regular.{RegularClasses};
 ghost use Rattle.jn_index.specs.Entries.{IsListed};
-ghost use Rattle.jn_index.specs.Index.{IsIndex};
-ghost use Rattle.jn_member_tables.specs.Numbers as numbers;
+ghost use Rattle.jn_index.specs.Index.{field_owners};
+ghost use Rattle.jn_member_tables.specs.Numbers.{places_of};
 ghost use Rattle.jn_declaration_rules.specs.Hidden as spec;
 ghost use Rattle.jn_declaration_rules.specs.Rows.{is_hiding};
 
 use jn_base::{ClassNo, Seq};
-use jn_index::index::Index as Members;
+use jn_index::indexed::Indexed;
 use jn_index::order::find_order;
 use jn_member_tables::tables::{Entry, Tables, find_tables};
 use jn_points::lookup::field_at;
-use jn_points::{Class, Field, Program};
+use jn_points::{Class, Field};
 use std::alloc::{AllocError, Global};
 
 /// For each class a table of the classes on its walk that declare fields, the nearest one at each field's name. Names are below
@@ -41,7 +41,7 @@ fn name_count(fields: &[Field]) -> usize
 /// Adds the entry of a field that the class declares.
 fn push_entry(
     entries: &mut Seq<Entry>,
-    program: &Program,
+    program: &Indexed,
     count: usize,
     class: u32,
     k: u32,
@@ -49,7 +49,7 @@ fn push_entry(
     ensures { OnOk result
         (entries.new ≡ entries.old ++ spec.owner_entry count class (field_info program.now k)) }
 {
-    match field_at(program, k as usize) {
+    match field_at(program.program(), k as usize) {
         None => Ok(()),
         Some(field) => {
             if field.owner.0 == class && (field.name.0 as usize) < count {
@@ -66,7 +66,7 @@ fn push_entry(
 #[tactic(auto, using(jn_index::proofs::Offered::entries_more))]
 fn own_entries(
     alloc: Global,
-    program: &Program,
+    program: &Indexed,
     count: usize,
     class: u32,
     fields: &[u32],
@@ -85,19 +85,18 @@ fn own_entries(
 #[tactic(auto, using(jn_index::proofs::Offered::listed_more))]
 fn all_entries(
     alloc: Global,
-    program: &Program,
-    index: &Members,
+    program: &Indexed,
     count: usize,
 ) -> Result<Vec<Seq<Entry>>, AllocError>
-    requires { length program.now.classes < 2 ^ 32 }
     ensures { IfOk result (λ all. IsListed (length program.now.classes)
-        (λ d. spec.owner_entries program.now count d (numbers.list_at index.now.own_fields d))
+        (λ d. spec.owner_entries program.now count d (places_of d 0 (field_owners program.now.fields)))
         all.items) }
 {
+    program.facts();
     let mut all = Vec::new(alloc);
-    for place in 0..program.classes.len() {
+    for place in 0..program.program().classes.len() {
         let class = place as u32;
-        all.push(own_entries(alloc, program, count, class, index.own_fields(class))?)?;
+        all.push(own_entries(alloc, program, count, class, program.own_fields(class))?)?;
     }
     Ok(all)
 }
@@ -107,20 +106,17 @@ fn all_entries(
 /// # Errors
 /// No memory was found, or numbers of 32 bits aren't enough for the nodes.
 #[tactic(auto, using(crate::proofs::FoundOwners::small_owners, crate::proofs::FoundOwners::owners_are))]
-pub fn find_owners(
-    alloc: Global,
-    program: &Program,
-    index: &Members,
-) -> Result<Option<Owners>, AllocError>
-    requires { IsIndex program.now index.now }
+pub fn find_owners(alloc: Global, program: &Indexed) -> Result<Option<Owners>, AllocError>
     ensures is { IfOk result (λ o. IfSome o (λ w. spec.AreOwners program.now w.count w.tables)) }
     ensures none { IfOk result
         (λ o. MatchOption o (RegularClasses program.now → ⊥) (λ w. Unit {0})) }
 {
-    let count = name_count(program.fields.as_slice());
-    let order = find_order(alloc, program)?;
-    let entries = all_entries(alloc, program, index, count)?;
-    let tables = find_tables(alloc, program, order.as_slice(), entries.as_slice(), count)?;
+    program.facts();
+    let lists = program.program();
+    let count = name_count(lists.fields.as_slice());
+    let order = find_order(alloc, lists)?;
+    let entries = all_entries(alloc, program, count)?;
+    let tables = find_tables(alloc, lists, order.as_slice(), entries.as_slice(), count)?;
     match tables {
         None => Ok(None),
         Some(tables) => Ok(Some(Owners { tables, count })),
@@ -143,7 +139,7 @@ fn found_above(tables: &Tables, name: u32, supers: &[ClassNo]) -> Option<u32>
 /// Whether a field of a class that is there hides one, where the tables tell: not where Object or a class above it declares a
 /// field of the name, nor where the class stands above itself.
 #[tactic(auto, using(crate::proofs::HiddenAbove::none_above, crate::proofs::HiddenAbove::some_above))]
-pub fn hides_above(program: &Program, owners: &Owners, field: &Field, class: &Class) -> Option<bool>
+pub fn hides_above(program: &Indexed, owners: &Owners, field: &Field, class: &Class) -> Option<bool>
     requires are { spec.AreOwners program.now owners.now.count owners.now.tables }
     requires at { class_info program.now field.now.owner.0 ≡ Some class.now }
     ensures is { IfSome result (λ hides. hides ≡ is_hiding program.now field.now) }

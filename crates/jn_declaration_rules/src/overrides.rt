@@ -6,11 +6,11 @@ ghost use Rattle.jn_points.specs.declared.program.Field.{Field as FieldOf};
 ghost use Rattle.jn_points.specs.declared.program.Method.{Method as MethodOf};
 ghost use Rattle.jn_points.specs.Lookup.{method_at};
 ghost use Rattle.jn_points.specs.Members as members;
-ghost use Rattle.jn_index.specs.Sizes.{ParamsFit};
 ghost use Rattle.jn_declaration_rules.specs.Rows as spec;
 
 use crate::rows::push_if;
 use jn_base::{ClassNo, Code, MethodNo, Row, Seq};
+use jn_index::indexed::IndexedProgram;
 use jn_points::members::{is_named, same_flag};
 use jn_points::{
     BaseType, Class, Elem, Field, Method, Program, is_pair, is_sub, is_subclass, method_of,
@@ -100,9 +100,7 @@ fn hides_badly(program: &Program, over: &Method) -> bool
 
 /// Whether the first method overrides the second without agreeing with it. Names are looked at first.
 #[tactic(auto, using(crate::proofs::Named::pairs_are_named))]
-fn clashes(program: &Program, m: usize, over: &Method, k: usize, under: &Method) -> bool
-    requires few { length program.now.classes < 2 ^ 32 }
-    requires small { length program.now.methods < 2 ^ 32 }
+fn clashes(program: &IndexedProgram, m: usize, over: &Method, k: usize, under: &Method) -> bool
     requires over_there { method_at program.now m ≡ Some over.now }
     requires under_there { method_at program.now k ≡ Some under.now }
     ensures { result
@@ -111,10 +109,11 @@ fn clashes(program: &Program, m: usize, over: &Method, k: usize, under: &Method)
     if !is_named(under, over.name, over.params.len()) {
         return false;
     }
-    if agrees(program, over, under) {
+    program.facts();
+    if agrees(program.program(), over, under) {
         return false;
     }
-    is_pair(program, MethodNo(m as u32), MethodNo(k as u32))
+    is_pair(program.program(), MethodNo(m as u32), MethodNo(k as u32))
 }
 
 fn is_hiding(program: &Program, field: &Field) -> bool
@@ -144,13 +143,11 @@ pub fn hiding_rows(program: &Program, rows: &mut Seq<Row>) -> Result<(), AllocEr
     Ok(())
 }
 
-fn overrides_badly(program: &Program, m: usize, over: &Method) -> bool
-    requires few { length program.now.classes < 2 ^ 32 }
-    requires small { length program.now.methods < 2 ^ 32 }
+fn overrides_badly(program: &IndexedProgram, m: usize, over: &Method) -> bool
     requires there { method_at program.now m ≡ Some over.now }
     ensures { result ≡ spec.overrides_badly program.now m over.now }
 {
-    let methods = program.methods.as_slice();
+    let methods = program.program().methods.as_slice();
     for (k, under) in methods.iter().enumerate() {
         if clashes(program, m, over, k, under) {
             return true;
@@ -159,25 +156,21 @@ fn overrides_badly(program: &Program, m: usize, over: &Method) -> bool
     false
 }
 
-fn is_bad_override(program: &Program, m: usize, method: &Method) -> bool
-    requires few { length program.now.classes < 2 ^ 32 }
-    requires small { length program.now.methods < 2 ^ 32 }
+fn is_bad_override(program: &IndexedProgram, m: usize, method: &Method) -> bool
     requires there { method_at program.now m ≡ Some method.now }
     ensures { result ≡ spec.is_bad_override program.now m method.now }
 {
-    overrides_badly(program, m, method) || hides_badly(program, method)
+    overrides_badly(program, m, method) || hides_badly(program.program(), method)
 }
 
 /// T5: bad overrides, and statics that are hidden badly.
-pub fn override_rows(program: &Program, rows: &mut Seq<Row>) -> Result<(), AllocError>
-    requires few { length program.now.classes < 2 ^ 32 }
-    requires small { length program.now.methods < 2 ^ 32 }
+pub fn override_rows(program: &IndexedProgram, rows: &mut Seq<Row>) -> Result<(), AllocError>
     ensures { OnOk result (rows.new
         ≡ rows.old
         ++ spec.rows_at T5 (λ (x : MethodOf). x.span) (spec.is_bad_override program.now) 0
         program.now.methods) }
 {
-    let methods = program.methods.as_slice();
+    let methods = program.program().methods.as_slice();
     for (m, method) in methods.iter().enumerate() {
         let bad = is_bad_override(program, m, method);
         push_if(rows, bad, Code::T5, method.span)?;
@@ -186,8 +179,7 @@ pub fn override_rows(program: &Program, rows: &mut Seq<Row>) -> Result<(), Alloc
 }
 
 /// Whether the class has the method, which is abstract.
-fn has_abstract(program: &Program, class: ClassNo, m: usize, method: &Method) -> bool
-    requires small { length program.now.methods < 2 ^ 32 }
+fn has_abstract(program: &IndexedProgram, class: ClassNo, m: usize, method: &Method) -> bool
     requires short { length method.now.params < 2 ^ 32 }
     ensures { result
         ≡ (method.now.is_abstract
@@ -198,15 +190,19 @@ fn has_abstract(program: &Program, class: ClassNo, m: usize, method: &Method) ->
     if !method.is_abstract {
         return false;
     }
-    match method_of(program, class, method.name, method.params.len() as u32) {
+    program.facts();
+    match method_of(
+        program.program(),
+        class,
+        method.name,
+        method.params.len() as u32,
+    ) {
         None => false,
         Some(found) => found.0 as usize == m,
     }
 }
 
-fn has_some_abstract(program: &Program, class: ClassNo) -> bool
-    requires small { length program.now.methods < 2 ^ 32 }
-    requires short { ParamsFit program.now }
+fn has_some_abstract(program: &IndexedProgram, class: ClassNo) -> bool
     ensures { result
         ≡ spec.some_at
         (λ m y. y.is_abstract
@@ -214,7 +210,8 @@ fn has_some_abstract(program: &Program, class: ClassNo) -> bool
         (members.method_of program.now class.0 y.name.0 (length y.params)) m)
         0 program.now.methods }
 {
-    let methods = program.methods.as_slice();
+    program.facts();
+    let methods = program.program().methods.as_slice();
     for (m, method) in methods.iter().enumerate() {
         if has_abstract(program, class, m, method) {
             return true;
@@ -223,26 +220,22 @@ fn has_some_abstract(program: &Program, class: ClassNo) -> bool
     false
 }
 
-fn lacks_body(program: &Program, place: usize, class: &Class) -> bool
+fn lacks_body(program: &IndexedProgram, place: usize, class: &Class) -> bool
     requires few { place < 2 ^ 32 }
-    requires small { length program.now.methods < 2 ^ 32 }
-    requires short { ParamsFit program.now }
     ensures { result ≡ spec.lacks_body program.now place class.now }
 {
     !class.interface && !class.is_abstract && has_some_abstract(program, ClassNo(place as u32))
 }
 
 /// T6: concrete classes with an abstract method.
-pub fn lacking_rows(program: &Program, rows: &mut Seq<Row>) -> Result<(), AllocError>
-    requires few { length program.now.classes < 2 ^ 32 }
-    requires small { length program.now.methods < 2 ^ 32 }
-    requires short { ParamsFit program.now }
+pub fn lacking_rows(program: &IndexedProgram, rows: &mut Seq<Row>) -> Result<(), AllocError>
     ensures { OnOk result (rows.new
         ≡ rows.old
         ++ spec.rows_at T6 (λ (x : ClassOf). x.span) (spec.lacks_body program.now) 0
         program.now.classes) }
 {
-    let classes = program.classes.as_slice();
+    program.facts();
+    let classes = program.program().classes.as_slice();
     for (place, class) in classes.iter().enumerate() {
         let lacks = lacks_body(program, place, class);
         push_if(rows, lacks, Code::T6, class.span)?;

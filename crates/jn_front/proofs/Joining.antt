@@ -18,10 +18,10 @@ use Rattle.jn_front.specs.declared.source.SourceFile.{SourceFile}
 use Rattle.jn_front.specs.declared.source.SourceRead.{SourceRead}
 use Rattle.jn_front.specs.declared.outcome.Outcome.{Outcome}
 use Rattle.jn_front.specs.declared.outcome.Outcome.TheVariants.{Lexical, Syntax, Tree}
-use Rattle.jn_front.specs.Counted.{ReadsFit}
 use Rattle.jn_front.specs.Files.{files_of_reads}
 use Rattle.jn_front.specs.Phases.{file_no, FaultRows, LexedFrom, SyntaxRows, ArePlaced, AreTreesOf}
 use Rattle.jn_front.specs.Outcomes.{AreOutcomes, lexical_rows, syntax_rows, joined_names, joined_trees, HaveFewNames}
+use Rattle.jn_front.proofs.Kept.{read_fits}
 use Rattle.jn_front.proofs.Known.{merged_length}
 
 -- ---- bounds
@@ -33,15 +33,15 @@ as_many k (read ∷ reads) [] h = absurd h
 as_many k (read ∷ reads) (outcome ∷ outcomes) h = ap suc (as_many (k + 1) reads outcomes h.1)
 
 module _ (few : (file : FileNo) (text : List ℕ) (old : List (List ℕ)) (tokens : List Token) (new : List (List ℕ)) → Lexed file text old tokens new → length new ≤ length old + length text) where
-  pub few_names : (k : ℕ) (reads : List SourceRead) (outcomes : List Outcome) → ReadsFit reads → AreOutcomes k (files_of_reads reads) outcomes → HaveFewNames outcomes
-  few_names k [] [] fit h = tt
-  few_names k [] (outcome ∷ outcomes) fit h = absurd h
-  few_names k (read ∷ reads) [] fit h = absurd h
-  few_names k (read ∷ reads) (Lexical row ∷ outcomes) fit h = few_names (k + 1) reads outcomes fit.1 h.1
-  few_names k (read ∷ reads) (Syntax row ∷ outcomes) fit h = few_names (k + 1) reads outcomes fit.1 h.1
-  few_names k (read ∷ reads) (Tree own tree ∷ outcomes) fit h =
+  pub few_names : (k : ℕ) (reads : List SourceRead) (outcomes : List Outcome) → AreOutcomes k (files_of_reads reads) outcomes → HaveFewNames outcomes
+  few_names k [] [] h = tt
+  few_names k [] (outcome ∷ outcomes) h = absurd h
+  few_names k (read ∷ reads) [] h = absurd h
+  few_names k (read ∷ reads) (Lexical row ∷ outcomes) h = few_names (k + 1) reads outcomes h.1
+  few_names k (read ∷ reads) (Syntax row ∷ outcomes) h = few_names (k + 1) reads outcomes h.1
+  few_names k (read ∷ reads) (Tree own tree ∷ outcomes) h =
       let short : length own ≤ 30 + length read.file.bytes = few (file_no k) read.file.bytes known_names h.0.0 own h.0.1 in
-      (omega (arith, short, fit.0), few_names (k + 1) reads outcomes fit.1 h.1)
+      (let fits = read_fits read in omega (arith, short, fits), few_names (k + 1) reads outcomes h.1)
 
 -- after one more there are few names
 pub still_few : (names : List (List ℕ)) (outcome : Outcome) → HaveFewNames (outcome ∷ []) → length (joined_names names (outcome ∷ [])) ≤ length names + 1048606

@@ -3,6 +3,7 @@ pub mod OneFront
 pub mod Loops
 pub mod Shares
 pub mod Joining
+pub mod Kept
 pub mod First
 pub mod Sending
 pub mod Numbering

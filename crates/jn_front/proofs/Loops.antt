@@ -1,5 +1,5 @@
 -- One file more of those that were read.
-use Rattle.std.proofs.Common.{◌≡◌, ℕ, zero, suc, ◌+◌, ◌<◌, ◌≤◌, List, [], ◌∷◌, ◌++◌, length, drop, get_or, refl, sym, ap, ◌∙◌, arith, inl, inr, append_assoc, append-nil, Bool, true, false}
+use Rattle.std.proofs.Common.{◌≡◌, ℕ, suc, ◌+◌, ◌<◌, ◌≤◌, List, [], ◌∷◌, ◌++◌, length, drop, get_or, refl, sym, ap, ◌∙◌, arith, inl, inr, append_assoc, append-nil, Bool, true, false}
 use Rattle.std.specs.Prelude.{cond, map}
 use Rattle.std.proofs.Math.Nat.{min-eq_left, min-eq_right}
 use Rattle.std.proofs.lemmas.Bool.{le-ltb}
@@ -9,7 +9,7 @@ use Rattle.jn_base.specs.declared.place.Row.{Row}
 use Rattle.jn_front.specs.declared.source.SourceFile.{SourceFile}
 use Rattle.jn_front.specs.declared.source.SourceRead.{SourceRead}
 use Rattle.jn_base.specs.declared.code.Code.TheVariants.{B1}
-use Rattle.jn_front.specs.Counted.{ReadsFit, counted_read}
+use Rattle.jn_front.specs.Counted.{counted_read}
 use Rattle.jn_front.specs.Limits.{row_at, counted, large_row, passing_row, size_rows, limit_rows}
 use Rattle.jn_front.specs.Files.{files_of_reads, IsReadOf, AreReads, most_files}
 
@@ -20,11 +20,6 @@ files_behind reads i read lt = ap files_of_reads (drop_more reads i read lt)
 
 pub none_behind : (reads : List SourceRead) (i : ℕ) → length reads ≤ i → files_of_reads (drop i reads) ≡ []
 none_behind reads i le = ap files_of_reads (drop_of_length-le reads le)
-
-pub fits_at : (reads : List SourceRead) (i : ℕ) (d : SourceRead) → ReadsFit reads → i < length reads → length (get_or reads i d).file.bytes ≤ 1048576
-fits_at [] i d fit lt = absurd (omega (arith, lt))
-fits_at (read ∷ reads) zero d fit lt = fit.0
-fits_at (read ∷ reads) (suc i) d fit lt = fits_at reads i d fit.1 (omega (arith, lt))
 
 -- ---- sizes
 

@@ -13,7 +13,7 @@ use Rattle.jn_base.specs.declared.refusal.Fail.TheVariants.{Refused, OutOfMemory
 use Rattle.jn_outside.specs.declared.files.Failed.{Failed}
 use Rattle.jn_front.specs.declared.source.SourceFile.{SourceFile}
 use Rattle.jn_front.specs.declared.source.SourceRead.{SourceRead}
-use Rattle.jn_front.specs.Files.{ReadFrom, AreHeld, AreGiven, given_of, StartsOnly, AllHeld, AreReads, CannotRead, read_as, names_of, file_limit}
+use Rattle.jn_front.specs.Files.{ReadFrom, AreHeld, AreGiven, given_of, StartsOnly, AllHeld, AreReads, CannotRead, IsReadAs, names_of, file_limit}
 
 -- ---- one file
 
@@ -25,42 +25,42 @@ one_held (Some h) name bytes g = (g, tt)
 one_given : (old new : List Given) (name bytes : List ℕ) → length bytes ≤ file_limit + 1 → new ≡ old ++ given name bytes ∷ [] → AreGiven old new (record { name = name; bytes = bytes } ∷ [])
 one_given old new name bytes le gave = gave ∙ ap (λ front. old ++ given name front ∷ []) (sym (take_all (file_limit + 1) bytes le))
 
-whole_from : (held : Option Holding) (old new : List Given) (name bytes : List ℕ) → Gives held name bytes → length bytes ≤ file_limit → new ≡ old ++ given name bytes ∷ [] → ReadFrom held (name ∷ []) old new (read_as name bytes true ∷ [])
-whole_from held old new name bytes g le gave = record {
+whole_from : (held : Option Holding) (old new : List Given) (name bytes : List ℕ) (read : SourceRead) → IsReadAs name bytes true read → Gives held name bytes → length bytes ≤ file_limit → new ≡ old ++ given name bytes ∷ [] → ReadFrom held (name ∷ []) old new (read ∷ [])
+whole_from held old new name bytes read is g le gave = record {
   files = record { name = name; bytes = bytes } ∷ [];
   named = refl;
   told = one_held held name bytes g;
   given = one_given old new name bytes (omega (arith, le)) gave;
-  are = (inl (refl, refl, le), tt);
+  are = (inl (is.1, is.0, le), tt);
 }
 
-pub read_whole_from : {E : Type 0} (held : Option Holding) (old new : List Given) (name bytes : List ℕ) (r : Result SourceRead E) → IfOk r (λ read. read ≡ read_as name bytes true) → Gives held name bytes → length bytes ≤ file_limit → new ≡ old ++ given name bytes ∷ [] → IfOk r (λ read. ReadFrom held (name ∷ []) old new (read ∷ []))
-read_whole_from held old new name bytes (Ok read) is g le gave = subst (λ read. ReadFrom held (name ∷ []) old new (read ∷ [])) (sym is) (whole_from held old new name bytes g le gave)
+pub read_whole_from : {E : Type 0} (held : Option Holding) (old new : List Given) (name bytes : List ℕ) (r : Result SourceRead E) → IfOk r (IsReadAs name bytes true) → Gives held name bytes → length bytes ≤ file_limit → new ≡ old ++ given name bytes ∷ [] → IfOk r (λ read. ReadFrom held (name ∷ []) old new (read ∷ []))
+read_whole_from held old new name bytes (Ok read) is g le gave = whole_from held old new name bytes read is g le gave
 read_whole_from held old new name bytes (Err e) is g le gave = tt
 
 -- of a file that is too large the first bytes were given
-longer_from : (held : Option Holding) (old new : List Given) (name bytes front : List ℕ) → Gives held name bytes → file_limit < length bytes → front ≡ take (file_limit + 1) bytes → new ≡ old ++ given name front ∷ [] → ReadFrom held (name ∷ []) old new (read_as name [] false ∷ [])
-longer_from held old new name bytes front g lt first gave = record {
+longer_from : (held : Option Holding) (old new : List Given) (name bytes front : List ℕ) (read : SourceRead) → IsReadAs name [] false read → Gives held name bytes → file_limit < length bytes → front ≡ take (file_limit + 1) bytes → new ≡ old ++ given name front ∷ [] → ReadFrom held (name ∷ []) old new (read ∷ [])
+longer_from held old new name bytes front read is g lt first gave = record {
   files = record { name = name; bytes = bytes } ∷ [];
   named = refl;
   told = one_held held name bytes g;
   given = gave ∙ ap (λ bytes. old ++ given name bytes ∷ []) first;
-  are = (inr (refl, refl, lt), tt);
+  are = (inr (is.1, is.0, lt), tt);
 }
 
-longer_held : (h : Holding) (old new : List Given) (name front : List ℕ) (o : Option (List ℕ)) → h name ≡ o → length front ≡ file_limit + 1 → BeginsWith o front → new ≡ old ++ given name front ∷ [] → ReadFrom (Some h) (name ∷ []) old new (read_as name [] false ∷ [])
-longer_held h old new name front None e many first gave = absurd first
-longer_held h old new name front (Some bytes) e many first gave =
+longer_held : (h : Holding) (old new : List Given) (name front : List ℕ) (read : SourceRead) → IsReadAs name [] false read → (o : Option (List ℕ)) → h name ≡ o → length front ≡ file_limit + 1 → BeginsWith o front → new ≡ old ++ given name front ∷ [] → ReadFrom (Some h) (name ∷ []) old new (read ∷ [])
+longer_held h old new name front read is None e many first gave = absurd first
+longer_held h old new name front read is (Some bytes) e many first gave =
     let same : front ≡ take (file_limit + 1) bytes = sym first ∙ ap (λ n. take n bytes) many in
     let long : length front ≡ length (take (file_limit + 1) bytes) = ap length same in
-    longer_from (Some h) old new name bytes front e (omega (arith, long, many, length-take (file_limit + 1) bytes)) same gave
+    longer_from (Some h) old new name bytes front read is e (omega (arith, long, many, length-take (file_limit + 1) bytes)) same gave
 
-large_from : (held : Option Holding) (old new : List Given) (name front : List ℕ) → length front ≡ file_limit + 1 → Begins held name front → new ≡ old ++ given name front ∷ [] → ReadFrom held (name ∷ []) old new (read_as name [] false ∷ [])
-large_from None old new name front many first gave = longer_from None old new name front front tt (omega (arith, many)) (sym (take_all (file_limit + 1) front (omega (arith, many)))) gave
-large_from (Some h) old new name front many first gave = longer_held h old new name front (h name) refl many first gave
+large_from : (held : Option Holding) (old new : List Given) (name front : List ℕ) (read : SourceRead) → IsReadAs name [] false read → length front ≡ file_limit + 1 → Begins held name front → new ≡ old ++ given name front ∷ [] → ReadFrom held (name ∷ []) old new (read ∷ [])
+large_from None old new name front read is many first gave = longer_from None old new name front front read is tt (omega (arith, many)) (sym (take_all (file_limit + 1) front (omega (arith, many)))) gave
+large_from (Some h) old new name front read is many first gave = longer_held h old new name front read is (h name) refl many first gave
 
-pub read_large_from : {E : Type 0} (held : Option Holding) (old new : List Given) (name none : List ℕ) (r : Result SourceRead E) → none ≡ [] → IfOk r (λ read. read ≡ read_as name none false) → GivesTooMany held name file_limit old new → IfOk r (λ read. ReadFrom held (name ∷ []) old new (read ∷ []))
-read_large_from held old new name none (Ok read) empty is m = subst (λ read. ReadFrom held (name ∷ []) old new (read ∷ [])) (sym (is ∙ ap (λ bytes. read_as name bytes false) empty)) (large_from held old new name m.front m.many m.first m.gave)
+pub read_large_from : {E : Type 0} (held : Option Holding) (old new : List Given) (name none : List ℕ) (r : Result SourceRead E) → none ≡ [] → IfOk r (IsReadAs name none false) → GivesTooMany held name file_limit old new → IfOk r (λ read. ReadFrom held (name ∷ []) old new (read ∷ []))
+read_large_from held old new name none (Ok read) empty is m = large_from held old new name m.front read (subst (λ bytes. IsReadAs name bytes false read) empty is) m.many m.first m.gave
 read_large_from held old new name none (Err e) empty is m = tt
 
 -- ---- one file more

@@ -6,7 +6,6 @@ use Rattle.jn_known.specs.Known.{known_names}
 use Rattle.jn_trees.specs.declared.token.Token.{Token}
 use Rattle.jn_lexer.specs.Lexed.{Lexed}
 use Rattle.jn_front.specs.declared.source.SourceRead.{SourceRead}
-use Rattle.jn_front.specs.Counted.{ReadsFit}
 use Rattle.jn_front.specs.Files.{files_of_reads}
 use Rattle.jn_front.specs.Phases.{LexedFrom}
 
@@ -79,8 +78,3 @@ pub at_place : (reads : List SourceRead) (k : ℕ) (d : SourceRead) (read : Sour
 at_place [] k d read lt is = absurd (omega (arith, lt))
 at_place (x ∷ xs) zero d read lt is = ap (λ y. y ∷ xs) (sym is) ∙ ap (λ ys. read ∷ ys) (sym (drop_nothing xs))
 at_place (x ∷ xs) (suc k) d read lt is = at_place xs k d read (omega (arith, lt)) is ∙ ap (λ j. read ∷ drop j (x ∷ xs)) (let e : suc (k + 1) ≡ suc k + 1 = omega arith in e)
-
-pub fits_at : (reads : List SourceRead) (k : ℕ) (d : SourceRead) (read : SourceRead) → k < length reads → read ≡ get_or reads k d → ReadsFit reads → length read.file.bytes ≤ 1048576
-fits_at [] k d read lt is fit = absurd (omega (arith, lt))
-fits_at (x ∷ xs) zero d read lt is fit = subst (λ (r : SourceRead). length r.file.bytes ≤ 1048576) (sym is) fit.0
-fits_at (x ∷ xs) (suc k) d read lt is fit = fits_at xs k d read (omega (arith, lt)) is fit.1

@@ -47,8 +47,8 @@ AllHeld held [] = Unit {0}
 AllHeld held (name ∷ names) = Holds held name × AllHeld held names
 
 -- what was read of a file: its name, these bytes, and whether it was read whole
-abbrev pub read_as : List ℕ → List ℕ → Bool → SourceRead
-read_as name bytes whole = record { file = record { name = name; bytes = bytes }; whole = whole }
+abbrev pub IsReadAs : List ℕ → List ℕ → Bool → SourceRead → Type 0
+IsReadAs name bytes whole read = (read.file ≡ record { name = name; bytes = bytes }) × (read.whole ≡ whole)
 
 -- the file was read whole, or its name alone where it is larger than the limit
 abbrev pub IsReadOf : SourceRead → SourceFile → Type 0

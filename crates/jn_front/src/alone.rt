@@ -1,5 +1,5 @@
 //! One file's text, lexed and parsed with names of its own.
-ghost use Rattle.std.specs.Prelude.{◌≤◌, length, IfOk};
+ghost use Rattle.std.specs.Prelude.{IfOk};
 ghost use Rattle.jn_front.specs.Outcomes.{IsOutcome};
 
 use crate::outcome::Outcome;
@@ -27,7 +27,6 @@ pub fn outcome_of<R: Threads + Sync, G: Gate>(
     more: u32,
     gate: &G,
 ) -> Result<Outcome, OutOfMemory>
-    requires fit { length read.now.file.bytes ≤ 1048576 }
     ensures { IfOk result (λ outcome. IsOutcome file read.now.file outcome) }
 {
     texts_have_few_tokens();

@@ -1,7 +1,7 @@
 //! The rows of the limits on files.
 ghost use Rattle.std.specs.Prelude.{◌≡◌, ◌≤◌, ◌+◌, ◌++◌, length, IfOk, OnOk, List};
 ghost use Rattle.jn_front.specs.declared.source.SourceFile.{SourceFile as SpecFile};
-ghost use Rattle.jn_front.specs.Counted.{counted_read, ReadsFit};
+ghost use Rattle.jn_front.specs.Counted.{counted_read};
 ghost use Rattle.jn_front.specs.Files.{AreReads};
 ghost use Rattle.jn_front.specs.Limits.{row_at, large_row, passing_row, limit_rows};
 
@@ -29,8 +29,8 @@ pub fn row_at(file: u32, code: Code) -> Row
     }
 }
 
+#[tactic(auto, using(crate::proofs::Kept::read_fits))]
 fn counted(read: &SourceRead) -> u32
-    requires { length read.now.file.bytes ≤ 1048576 }
     ensures { result ≡ counted_read read.now }
 {
     if read.whole {
@@ -62,7 +62,6 @@ fn put_passing(rows: &mut Vec<Row>, file: u32, before: u32, size: u32) -> Result
 /// The rows of the limits on files of which these were read, at most 64.
 pub fn limit_rows(alloc: Global, reads: &[SourceRead]) -> Result<Vec<Row>, AllocError>
     requires few { length reads.now ≤ 64 }
-    requires fit { ReadsFit reads.now }
     ensures { IfOk result (λ rows.
         (files : List SpecFile) → AreReads reads.now files → rows.items ≡ limit_rows files) }
 {

@@ -1,7 +1,6 @@
 //! From the texts of files to their names and trees, or their rows, by workers.
 ghost use Rattle.std.specs.Prelude.{◌≡◌, ◌≤◌, ◌<◌, ◌+◌, ◌-◌, ◌*◌, ◌/◌, [], true, length, map, min, IfOk};
 ghost use Rattle.jn_places.specs.PlacedView.{placed_file};
-ghost use Rattle.jn_front.specs.Counted.{ReadsFit};
 ghost use Rattle.jn_front.specs.Files.{files_of_reads};
 ghost use Rattle.jn_front.specs.Outcomes.{AreOutcomes};
 ghost use Rattle.jn_front.specs.Phases.{AreTreesOf, TextRows};
@@ -13,7 +12,7 @@ use crate::source::SourceRead;
 use jn_base::{OutOfMemory, Row};
 use jn_lex_shared::law::{own_names_can_be_merged, own_trees_can_be_renumbered};
 use jn_lexer::law::{texts_have_few_tokens, texts_have_one_reading};
-use jn_sharing::Gate;
+use jn_sharing::{Gate, Workers};
 use jn_trees::{FileTree, Names};
 use std::alloc::Global;
 use std::thread::Threads;
@@ -64,7 +63,6 @@ fn put_together<R: Threads + Sync>(
     more: u32,
 ) -> Result<ParsedFiles, OutOfMemory>
     requires few { length reads.now ≤ 64 }
-    requires fit { ReadsFit reads.now }
     requires found { AreOutcomes 0 (files_of_reads reads.now) outcomes.items }
     ensures rows { IfOk result
         (λ p. (p.rows.items ≡ [] → ⊥) → TextRows (files_of_reads reads.now) p.rows.items) }
@@ -130,12 +128,10 @@ pub fn parse_files<R: Threads + Sync, G: Gate + Sync>(
     rt: &R,
     alloc: Global,
     reads: &[SourceRead],
-    workers: u32,
+    workers: Workers,
     gate: &G,
 ) -> Result<ParsedFiles, OutOfMemory>
     requires few { length reads.now ≤ 64 }
-    requires fit { ReadsFit reads.now }
-    requires workers { (1 ≤ workers) × (workers ≤ 16) }
     ensures rows { IfOk result
         (λ p. (p.rows.items ≡ [] → ⊥) → TextRows (files_of_reads reads.now) p.rows.items) }
     ensures trees { IfOk result (λ p. p.rows.items ≡ []
@@ -143,8 +139,8 @@ pub fn parse_files<R: Threads + Sync, G: Gate + Sync>(
     ensures none { IfOk result
         (λ p. (p.rows.items ≡ [] → ⊥) → (p.trees.items ≡ []) × (p.names ≡ [])) }
 {
-    let more = more_workers(reads.len(), workers);
-    let others = others_of_each(workers, more);
+    let more = more_workers(reads.len(), workers.count());
+    let others = others_of_each(workers.count(), more);
     let outcomes = parse_by(rt, alloc, reads, more, others, gate)?;
     put_together(rt, alloc, reads, outcomes, more)
 }

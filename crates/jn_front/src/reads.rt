@@ -1,9 +1,9 @@
 //! Files, read whole one after another.
-ghost use Rattle.std.specs.Prelude.{◌≡◌, ◌≤◌, ◌<◌, ◌∷◌, [], ◌++◌, map, IfOk, OnOk, string_bytes};
+ghost use Rattle.std.specs.Prelude.{◌≡◌, ◌≤◌, ◌<◌, ◌∷◌, [], ◌++◌, cond, length, map, IfOk, OnOk, string_bytes};
 ghost use Rattle.jn_outside.specs.Causes.{Rose};
 ghost use Rattle.jn_outside.specs.Files.{Holds};
 ghost use Rattle.jn_outside.specs.Gave.{GivesLittle};
-ghost use Rattle.jn_front.specs.Files.{ReadFrom, StartsOnly, AllHeld, CannotRead, read_as};
+ghost use Rattle.jn_front.specs.Files.{ReadFrom, StartsOnly, AllHeld, CannotRead, IsReadAs};
 
 use crate::source::{SourceFile, SourceRead};
 use jn_base::{Fail, Seq, Text};
@@ -15,7 +15,8 @@ const LIMIT: u32 = 1_048_576;
 
 /// A file of this name, read whole or not.
 fn named(alloc: Global, name: &str, bytes: Vec<u8>, whole: bool) -> Result<SourceRead, Fail<Failed>>
-    ensures read { IfOk result (λ read. read ≡ read_as name.now bytes.items whole) }
+    requires { length bytes.items ≤ cond whole 1048576 0 }
+    ensures read { IfOk result (IsReadAs name.now bytes.items whole) }
     ensures able { CannotRead result → ⊥ }
 {
     match Text::of_str(alloc, name) {

@@ -1,10 +1,8 @@
 //! The tokens of files whose trees are known.
 ghost use Rattle.std.specs.Prelude.{◌≡◌, ◌<◌, ◌≤◌, ◌+◌, ◌-◌, ◌^◌, List, ℕ, length, IfOk};
-ghost use Rattle.jn_base.specs.declared.number.FileNo.{FileNo as SpecFileNo};
 ghost use Rattle.jn_trees.specs.declared.token.Token.{Token as SpecToken};
 ghost use Rattle.jn_known.specs.Known.{known_names};
 ghost use Rattle.jn_lexer.specs.Lexed.{Lexed};
-ghost use Rattle.jn_front.specs.Counted.{ReadsFit};
 ghost use Rattle.jn_front.specs.Files.{files_of_reads};
 ghost use Rattle.jn_front.specs.Phases.{LexedFrom};
 
@@ -45,7 +43,6 @@ fn lex_again(
 /// No memory was found.
 pub fn lex_all(alloc: Global, reads: &[SourceRead]) -> Result<Vec<Seq<Token>>, OutOfMemory>
     requires few { length reads.now ≤ 64 }
-    requires fit { ReadsFit reads.now }
     requires lexes { (tokens : List (List SpecToken)) × (last : List (List ℕ))
         × LexedFrom 0 known_names (files_of_reads reads.now) tokens last }
     ensures { IfOk result (λ made. (tokens : List (List SpecToken)) (last : List (List ℕ))

@@ -1,7 +1,6 @@
 //! Files shared among workers.
 ghost use Rattle.std.specs.Prelude.{◌≤◌, ◌<◌, length, IfOk};
 ghost use Rattle.std.specs.Thread.{IsSync};
-ghost use Rattle.jn_front.specs.Counted.{ReadsFit};
 ghost use Rattle.jn_front.specs.Files.{files_of_reads};
 ghost use Rattle.jn_front.specs.Outcomes.{AreOutcomes, IsOutcomeOf};
 
@@ -24,12 +23,11 @@ pub fn parse_by<R: Threads + Sync, G: Gate + Sync>(
     gate: &G,
 ) -> Result<Vec<Outcome>, OutOfMemory>
     requires few { length reads.now ≤ 64 }
-    requires fit { ReadsFit reads.now }
     ensures { IfOk result
         (λ outcomes. AreOutcomes 0 (files_of_reads reads.now) outcomes.items) }
 {
     let parse = |at: usize, worker: u32| -> Result<Outcome, OutOfMemory>
-        requires { IsSync R.row × (length reads.now ≤ 64) × ReadsFit reads.now × (at < length reads.now) }
+        requires { IsSync R.row × (length reads.now ≤ 64) × (at < length reads.now) }
         ensures { IfOk result (λ outcome. IsOutcomeOf reads.entry.now at outcome) }
     {
         let outcome = outcome_of(rt, alloc, &reads[at], at as u32, worker, others, gate)?;

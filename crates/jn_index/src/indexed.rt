@@ -1,7 +1,8 @@
-//! A program with an index of it.
+//! A program with an index of it: owned, where there may be none, and lent.
 ghost use Rattle.std.specs.Prelude.{◌≡◌, IfOk, IfSome, MatchOption};
 ghost use Rattle.jn_points.specs.Members.{fits};
-ghost use Rattle.jn_index.specs.Index.{IsIndex};
+ghost use Rattle.jn_member_tables.specs.Numbers.{places_of};
+ghost use Rattle.jn_index.specs.Index.{IsIndex, owners, field_owners};
 ghost use Rattle.jn_index.specs.Sizes.{Few};
 
 use crate::index::Index;
@@ -11,6 +12,63 @@ use jn_base::Seq;
 use jn_points::{BaseType, Body, Program, SlotInfo};
 use std::alloc::{AllocError, Global};
 use std::marker::Model;
+
+/// A program with its index, both lent. What is looked up by an index takes this, so that the index is always the program's. Contracts see
+/// the program.
+#[derive(Drop)]
+pub struct Indexed<'a> {
+    program: &'a Program,
+    index: &'a Index,
+}
+
+impl<'a> Model for Indexed<'a> {
+    ghost use Rattle.jn_points.specs.declared.program.Program.{Program as ProgramOf};
+    ghost use Rattle.jn_index.specs.Index.{IsIndex};
+    ghost use Rattle.jn_index.specs.Sizes.{Few};
+
+    ghost Value = { ProgramOf };
+
+    ghost view = { λ p. p.program.now };
+
+    ghost invariant = { λ p. Few p.program.now × IsIndex p.program.now p.index.now };
+}
+
+impl<'a> Indexed<'a> {
+    /// What holds of every indexed program: numbers of 32 bits are enough for its classes, fields, methods and parameters.
+    pub fn facts(&self)
+        ensures { Few self.now }
+    {
+        let _program = &self.program;
+    }
+
+    /// The program.
+    pub fn program(&self) -> &'a Program
+        ensures { result.now ≡ self.now }
+    {
+        self.program
+    }
+
+    /// The index of the program.
+    pub fn index(&self) -> &'a Index
+        ensures { IsIndex self.now result.now }
+    {
+        self.index
+    }
+
+    /// The methods that a class declares, in rising order.
+    pub fn own(&self, class: u32) -> &'a [u32]
+        ensures { result.now ≡ places_of class 0 (owners self.now.methods) }
+    {
+        self.index.own(class)
+    }
+
+    /// The fields that a class declares, in rising order.
+    pub fn own_fields(&self, class: u32) -> &'a [u32]
+        ensures { result.now ≡ places_of class 0 (field_owners self.now.fields) }
+    {
+        self.index.own_fields(class)
+    }
+}
 
 /// A program whose classes, fields, methods and parameters have numbers of 32 bits, with an index of it where there is one. Contracts see
 /// the program.
@@ -107,11 +165,17 @@ impl IndexedProgram {
         &self.program
     }
 
-    /// The index of the program, where it has one.
-    pub fn index(&self) -> Option<&Index>
-        ensures { IfSome result (λ i. IsIndex self.now i.now) }
+    /// The program with its index, where it has one.
+    pub fn indexed(&self) -> Option<Indexed<'_>>
+        ensures { IfSome result (λ p. p ≡ self.now) }
     {
-        self.index.as_ref()
+        match &self.index {
+            None => None,
+            Some(index) => Some(Indexed {
+                program: &self.program,
+                index,
+            }),
+        }
     }
 
     /// Takes the index out of the program, whose lists are then all there is to search.
@@ -126,9 +190,9 @@ impl IndexedProgram {
     pub fn is_sub(&self, low: BaseType, high: BaseType) -> bool
         ensures { result ≡ fits self.now low high }
     {
-        match &self.index {
-            Some(index) => fits::is_sub(&self.program, index, low, high),
-            None => jn_points::is_sub(&self.program, low, high),
+        match self.indexed() {
+            Some(indexed) => fits::is_sub(&indexed, low, high),
+            None => jn_points::is_sub(self.program(), low, high),
         }
     }
 }

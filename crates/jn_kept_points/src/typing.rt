@@ -1,5 +1,5 @@
 //! From trees to their program, or to the rows of the first phase that has any, where an earlier program is kept.
-ghost use Rattle.std.specs.Prelude.{◌≡◌, ◌≤◌, [], false, true, IsSome, List, map, IfOk};
+ghost use Rattle.std.specs.Prelude.{◌≡◌, [], false, true, IsSome, List, map, IfOk};
 ghost use Rattle.jn_trees.specs.declared.token.Token.{Token as SpecToken};
 ghost use Rattle.jn_points.specs.declared.program.Program.{Program};
 ghost use Rattle.jn_basecheck.specs.Rows.{AreTyped};
@@ -36,6 +36,7 @@ use jn_index::indexed::IndexedProgram;
 use jn_phases::{TypedTable, Typing, find_table, refused_types};
 use jn_points::Body;
 use jn_program::sources::{Start, starts_of_files};
+use jn_sharing::Workers;
 use jn_trees::{FileTree, Names};
 use std::alloc::Global;
 use std::thread::Threads;
@@ -128,7 +129,7 @@ fn refused(
 fn find_with<R: Threads + Sync>(
     rt: &R,
     alloc: Global,
-    workers: u32,
+    workers: Workers,
     infer: Infer,
     reads: &[SourceRead],
     names: &Names,
@@ -147,7 +148,6 @@ fn find_with<R: Threads + Sync>(
         (sources (map placed_file trees.now)) bodies.now known.now }
     requires typed { (P : Program) → IsProgram infer (map placed_file trees.now) P
         → AreTyped P known.now }
-    requires workers { (1 ≤ workers) × (workers ≤ 16) }
     ensures typing { IfOk result (λ found.
         IsTyping infer (files_of_reads reads.now) names.now (map placed_file trees.now) found.typing) }
     ensures kept { IfOk result
@@ -168,7 +168,7 @@ fn find_with<R: Threads + Sync>(
 fn find_heads<R: Threads + Sync>(
     rt: &R,
     alloc: Global,
-    workers: u32,
+    workers: Workers,
     infer: Infer,
     reads: &[SourceRead],
     names: &Names,
@@ -178,7 +178,6 @@ fn find_heads<R: Threads + Sync>(
     requires parsed { (tokens : List (List SpecToken))
         × AreParsed (files_of_reads reads.now) names.now tokens (map placed_file trees.now) }
     requires heads { heads ≡ heads_of (map placed_file trees.now) }
-    requires workers { (1 ≤ workers) × (workers ≤ 16) }
     ensures typing { IfOk result (λ found.
         IsTyping infer (files_of_reads reads.now) names.now (map placed_file trees.now) found.typing) }
     ensures kept { IfOk result
@@ -200,7 +199,7 @@ fn find_heads<R: Threads + Sync>(
 fn find_of_table<R: Threads + Sync>(
     rt: &R,
     alloc: Global,
-    workers: u32,
+    workers: Workers,
     infer: Infer,
     reads: &[SourceRead],
     names: &Names,
@@ -211,7 +210,6 @@ fn find_of_table<R: Threads + Sync>(
         × AreParsed (files_of_reads reads.now) names.now tokens (map placed_file trees.now) }
     requires rowless { t_rows (heads_of (map placed_file trees.now)) ≡ [] }
     requires table { table ≡ tabled infer (map placed_file trees.now) }
-    requires workers { (1 ≤ workers) × (workers ≤ 16) }
     ensures typing { IfOk result (λ found.
         IsTyping infer (files_of_reads reads.now) names.now (map placed_file trees.now) found.typing) }
     ensures kept { IfOk result
@@ -247,7 +245,7 @@ fn find_of_table<R: Threads + Sync>(
 pub fn find_trees_anew<R: Threads + Sync>(
     rt: &R,
     alloc: Global,
-    workers: u32,
+    workers: Workers,
     infer: Infer,
     reads: &[SourceRead],
     names: &Names,
@@ -255,7 +253,6 @@ pub fn find_trees_anew<R: Threads + Sync>(
 ) -> Result<TypedTrees, OutOfMemory>
     requires parsed { (tokens : List (List SpecToken))
         × AreParsed (files_of_reads reads.now) names.now tokens (map placed_file trees.now) }
-    requires workers { (1 ≤ workers) × (workers ≤ 16) }
     ensures typing { IfOk result (λ found.
         IsTyping infer (files_of_reads reads.now) names.now (map placed_file trees.now) found.typing) }
     ensures kept { IfOk result
@@ -322,7 +319,7 @@ pub fn nothing_unchanged(alloc: Global) -> Unchanged
 fn find_alike<R: Threads + Sync>(
     rt: &R,
     alloc: Global,
-    workers: u32,
+    workers: Workers,
     infer: Infer,
     reads: &[SourceRead],
     names: &Names,
@@ -339,7 +336,6 @@ fn find_alike<R: Threads + Sync>(
     requires alike { IsAlike kept.now.heads (heads_of (map placed_file trees.now)) }
     requires earlier { (before : List PlacedFile) × IsTypingOf infer before base.now kept.now
         × SameTrees before same.now (map placed_file trees.now) }
-    requires workers { (1 ≤ workers) × (workers ≤ 16) }
     ensures typing { IfOk result (λ f.
         IsTyping infer (files_of_reads reads.now) names.now (map placed_file trees.now) f.found.typing) }
     ensures kept { IfOk result
@@ -402,7 +398,7 @@ fn find_alike<R: Threads + Sync>(
 pub fn find_trees_again<R: Threads + Sync>(
     rt: &R,
     alloc: Global,
-    workers: u32,
+    workers: Workers,
     infer: Infer,
     reads: &[SourceRead],
     names: &Names,
@@ -415,7 +411,6 @@ pub fn find_trees_again<R: Threads + Sync>(
         × AreParsed (files_of_reads reads.now) names.now tokens (map placed_file trees.now) }
     requires earlier { (before : List PlacedFile) × IsTypingOf infer before base.old kept.now
         × SameTrees before same.now (map placed_file trees.now) }
-    requires workers { (1 ≤ workers) × (workers ≤ 16) }
     ensures typing { IfOk result (λ f.
         IsTyping infer (files_of_reads reads.now) names.now (map placed_file trees.now) f.found.typing) }
     ensures kept { IfOk result

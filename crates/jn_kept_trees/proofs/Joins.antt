@@ -16,11 +16,11 @@ use Rattle.jn_renumber.specs.Tokens.{tokens_by}
 use Rattle.jn_front.specs.declared.source.SourceFile.{SourceFile}
 use Rattle.jn_front.specs.declared.source.SourceRead.{SourceRead}
 use Rattle.jn_front.specs.declared.outcome.Outcome.TheVariants.{Tree}
-use Rattle.jn_front.specs.Counted.{ReadsFit}
 use Rattle.jn_front.specs.Files.{files_of_reads}
 use Rattle.jn_front.specs.Outcomes.{IsOutcome}
 use Rattle.jn_front.specs.Phases.{file_no, ArePlaced, AreTreesOf, LexedFrom}
 use Rattle.jn_front.proofs.Known.{merged_length}
+use Rattle.jn_front.proofs.Kept.{read_fits}
 use Rattle.jn_kept_trees.specs.declared.kept.KeptTree.{KeptTree}
 use Rattle.jn_kept_trees.specs.declared.merging.TextNames.{TextNames}
 use Rattle.jn_kept_trees.specs.KeptTrees.{AreKeptTrees, IsKeptOrNone, IsKeptTree}
@@ -67,17 +67,17 @@ module _ (few : (file : FileNo) (text : List ℕ) (old : List (List ℕ)) (token
       let short : length kept.own ≤ 30 + length file.bytes = few (file_no k) file.bytes known_names is.is.0 kept.own is.is.1 in
       (omega (arith, short, fit), is.numbers)
 
-  all_fit : (k : ℕ) (reads : List SourceRead) (kept : List (Option KeptTree)) → ReadsFit reads → length kept ≡ length reads → ((n : ℕ) (file : SourceFile) → slice_get (files_of_reads reads) n ≡ Some file → IsKeptOrNone (k + n) file (get_or kept n None)) → AreFit kept
-  all_fit k [] [] fit long each = tt
-  all_fit k [] (one ∷ kept) fit long each = absurd (omega (arith, long))
-  all_fit k (read ∷ reads) [] fit long each = tt
-  all_fit k (read ∷ reads) (one ∷ kept) fit long each = (
-    one_fits (k + 0) read.file one fit.0 (each 0 read.file refl),
-    all_fit (k + 1) reads kept fit.1 (omega (arith, long)) (λ n file e. (let next : k + suc n ≡ k + 1 + n = omega arith in subst (λ m. IsKeptOrNone m file (get_or kept n None)) next (each (suc n) file e))),
+  all_fit : (k : ℕ) (reads : List SourceRead) (kept : List (Option KeptTree)) → length kept ≡ length reads → ((n : ℕ) (file : SourceFile) → slice_get (files_of_reads reads) n ≡ Some file → IsKeptOrNone (k + n) file (get_or kept n None)) → AreFit kept
+  all_fit k [] [] long each = tt
+  all_fit k [] (one ∷ kept) long each = absurd (omega (arith, long))
+  all_fit k (read ∷ reads) [] long each = tt
+  all_fit k (read ∷ reads) (one ∷ kept) long each = (
+    one_fits (k + 0) read.file one (read_fits read) (each 0 read.file refl),
+    all_fit (k + 1) reads kept (omega (arith, long)) (λ n file e. (let next : k + suc n ≡ k + 1 + n = omega arith in subst (λ m. IsKeptOrNone m file (get_or kept n None)) next (each (suc n) file e))),
   )
 
-  pub kept_fit : (reads : List SourceRead) (kept : List (Option KeptTree)) → ReadsFit reads → length kept ≡ length reads → AreKeptTrees (files_of_reads reads) kept → AreFit kept
-  kept_fit reads kept fit long are = all_fit 0 reads kept fit long (λ n file e. (let here : n ≡ 0 + n = omega arith in subst (λ m. IsKeptOrNone m file (get_or kept n None)) here (are n file e)))
+  pub kept_fit : (reads : List SourceRead) (kept : List (Option KeptTree)) → length kept ≡ length reads → AreKeptTrees (files_of_reads reads) kept → AreFit kept
+  kept_fit reads kept long are = all_fit 0 reads kept long (λ n file e. (let here : n ≡ 0 + n = omega arith in subst (λ m. IsKeptOrNone m file (get_or kept n None)) here (are n file e)))
 
 -- `Kept` holds of names that have the known ones
 module _ (Kept : List (List ℕ) → Type 0) (still : (all own : List (List ℕ)) → Kept all → Kept (merged all own)) (parsed : (file : FileNo) (text : List ℕ) (all own : List (List ℕ)) (tokens : List Token) (tree : PlacedFile) → Kept all → Lexed file text known_names tokens own → IsPlacedFile tokens tree → Lexed file text all (tokens_by (merged_numbers all own) tokens) (merged all own) × IsPlacedFile (tokens_by (merged_numbers all own) tokens) (renumbered_file (merged_numbers all own) tree)) where

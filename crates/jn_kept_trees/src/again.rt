@@ -1,7 +1,6 @@
 //! From the texts of files to their names and trees, or their rows, where trees of texts that stayed are kept.
 ghost use Rattle.std.specs.Prelude.{◌≡◌, ◌≤◌, ◌<◌, [], true, false, length, map, IfOk};
 ghost use Rattle.jn_places.specs.PlacedView.{placed_file};
-ghost use Rattle.jn_front.specs.Counted.{ReadsFit};
 ghost use Rattle.jn_front.specs.Files.{files_of_reads};
 ghost use Rattle.jn_front.specs.Phases.{AreTreesOf, TextRows};
 ghost use Rattle.jn_kept_trees.specs.KeptTrees.{AreAllKept, AreKeptTrees};
@@ -20,7 +19,7 @@ use jn_front::renumbering::renumber_by;
 use jn_front::{SourceFile, SourceRead};
 use jn_lex_shared::law::{own_names_can_be_merged, own_trees_can_be_renumbered};
 use jn_lexer::law::{texts_have_few_tokens, texts_have_one_reading};
-use jn_sharing::Gate;
+use jn_sharing::{Gate, Workers};
 use jn_trees::{FileTree, Names};
 use std::alloc::Global;
 use std::thread::Threads;
@@ -71,14 +70,12 @@ fn merged<R: Threads + Sync>(
     reads: &[SourceRead],
     kept: Vec<Option<KeptTree>>,
     flags: &[bool],
-    workers: u32,
+    workers: Workers,
 ) -> Result<ParsedAgain, OutOfMemory>
     requires few { length reads.now ≤ 64 }
-    requires fit { ReadsFit reads.now }
     requires long { length kept.items ≡ length reads.now }
     requires kept { AreKeptTrees (files_of_reads reads.now) kept.items }
     requires all { AreAll kept.items }
-    requires workers { (1 ≤ workers) × (workers ≤ 16) }
     ensures rows { IfOk result (λ p. p.rows.items ≡ []) }
     ensures trees { IfOk result
         (λ p. AreTreesOf (files_of_reads reads.now) p.names (map placed_file p.trees.items)) }
@@ -98,7 +95,7 @@ fn merged<R: Threads + Sync>(
         texts,
     } = merge_all(alloc, kept)?;
     let same = which_stay(alloc, trees.as_slice(), flags)?;
-    let trees = renumber_by(rt, alloc, trees, workers as usize)?;
+    let trees = renumber_by(rt, alloc, trees, workers.count() as usize)?;
     Ok(ParsedAgain {
         trees,
         names,
@@ -119,16 +116,14 @@ fn put_together<R: Threads + Sync>(
     flags: &[bool],
     faults: Vec<Row>,
     syntax: Vec<Row>,
-    workers: u32,
+    workers: Workers,
 ) -> Result<ParsedAgain, OutOfMemory>
     requires few { length reads.now ≤ 64 }
-    requires fit { ReadsFit reads.now }
     requires long { length kept.items ≡ length reads.now }
     requires kept { AreAllKept (files_of_reads reads.now) kept.items }
     requires faults { (faults.items ≡ [] → ⊥) → TextRows (files_of_reads reads.now) faults.items }
     requires syntax { faults.items ≡ [] → TextRows (files_of_reads reads.now) syntax.items }
     requires all { faults.items ≡ [] → syntax.items ≡ [] → AreAll kept.items }
-    requires workers { (1 ≤ workers) × (workers ≤ 16) }
     ensures rows { IfOk result
         (λ p. (p.rows.items ≡ [] → ⊥) → TextRows (files_of_reads reads.now) p.rows.items) }
     ensures trees { IfOk result (λ p. p.rows.items ≡ []
@@ -162,13 +157,11 @@ pub fn parse_again<R: Threads + Sync, G: Gate + Sync>(
     reads: &[SourceRead],
     last: &[SourceFile],
     trees: Vec<Option<KeptTree>>,
-    workers: u32,
+    workers: Workers,
     gate: &G,
 ) -> Result<ParsedAgain, OutOfMemory>
     requires few { length reads.now ≤ 64 }
-    requires fit { ReadsFit reads.now }
     requires kept { AreKeptTrees last.now trees.items }
-    requires workers { (1 ≤ workers) × (workers ≤ 16) }
     ensures rows { IfOk result
         (λ p. (p.rows.items ≡ [] → ⊥) → TextRows (files_of_reads reads.now) p.rows.items) }
     ensures trees { IfOk result (λ p. p.rows.items ≡ []

@@ -1,7 +1,6 @@
 //! The files that have no kept tree, lexed and parsed by workers.
-ghost use Rattle.std.specs.Prelude.{◌≡◌, ◌≤◌, ◌<◌, ℕ, Bool, false, None, length, map, get_or, IfOk};
+ghost use Rattle.std.specs.Prelude.{◌≡◌, ◌≤◌, ◌<◌, None, length, map, IfOk};
 ghost use Rattle.std.specs.Thread.{IsSync};
-ghost use Rattle.jn_front.specs.Counted.{ReadsFit};
 ghost use Rattle.jn_kept_trees.specs.Fresh.{AreFresh, IsFreshOf, has_tree};
 
 use crate::kept::KeptTree;
@@ -9,7 +8,7 @@ use jn_base::OutOfMemory;
 use jn_base::lists::put;
 use jn_front::parsing::{more_workers, others_of_each};
 use jn_front::{Outcome, SourceRead, outcome_of};
-use jn_sharing::{Gate, share_out};
+use jn_sharing::{Gate, Workers, share_out};
 use std::alloc::Global;
 use std::thread::Threads;
 
@@ -52,7 +51,6 @@ fn parse_one<R: Threads + Sync, G: Gate>(
     gate: &G,
 ) -> Result<Option<Outcome>, OutOfMemory>
     requires few { length reads.now ≤ 64 }
-    requires fit { ReadsFit reads.now }
     requires long { length kept.now ≡ length reads.now }
     requires inside { at < length reads.now }
     ensures { IfOk result (λ fresh. IsFreshOf reads.now kept.now at fresh) }
@@ -76,12 +74,11 @@ fn parse_by<R: Threads + Sync, G: Gate + Sync>(
     gate: &G,
 ) -> Result<Vec<Option<Outcome>>, OutOfMemory>
     requires few { length reads.now ≤ 64 }
-    requires fit { ReadsFit reads.now }
     requires long { length kept.now ≡ length reads.now }
     ensures { IfOk result (λ fresh. AreFresh reads.now kept.now fresh.items) }
 {
     let parse = |at: usize, worker: u32| -> Result<Option<Outcome>, OutOfMemory>
-        requires { IsSync R.row × (length reads.now ≤ 64) × ReadsFit reads.now × (length kept.now ≡ length reads.now) × (at < length reads.now) }
+        requires { IsSync R.row × (length reads.now ≤ 64) × (length kept.now ≡ length reads.now) × (at < length reads.now) }
         ensures { IfOk result (λ fresh. IsFreshOf reads.entry.now kept.entry.now at fresh) }
     {
         let fresh = parse_one(rt, alloc, reads, kept, at, worker, beside, gate)?;
@@ -101,16 +98,14 @@ pub fn parse_others<R: Threads + Sync, G: Gate + Sync>(
     alloc: Global,
     reads: &[SourceRead],
     kept: &[bool],
-    workers: u32,
+    workers: Workers,
     gate: &G,
 ) -> Result<Vec<Option<Outcome>>, OutOfMemory>
     requires few { length reads.now ≤ 64 }
-    requires fit { ReadsFit reads.now }
     requires long { length kept.now ≡ length reads.now }
-    requires workers { (1 ≤ workers) × (workers ≤ 16) }
     ensures { IfOk result (λ fresh. AreFresh reads.now kept.now fresh.items) }
 {
-    let more = more_workers(others(kept), workers);
-    let beside = others_of_each(workers, more);
+    let more = more_workers(others(kept), workers.count());
+    let beside = others_of_each(workers.count(), more);
     parse_by(rt, alloc, reads, kept, more, beside, gate)
 }

@@ -1,10 +1,9 @@
 //! From files that were read to their program, or to the rows of the first phase that has any, where trees of texts that stayed are kept.
-ghost use Rattle.std.specs.Prelude.{◌≡◌, ◌≤◌, [], ℕ, List, None, true, false, length, map, IfErr, IfOk, IsSome};
+ghost use Rattle.std.specs.Prelude.{◌≡◌, ◌≤◌, [], List, None, true, false, length, map, IfErr, IfOk, IsSome};
 ghost use Rattle.jn_base.specs.declared.place.Row.{Row as SpecRow};
 ghost use Rattle.jn_diag.specs.Order.{IsOrderOf};
 ghost use Rattle.jn_places.specs.Placed.{PlacedFile};
 ghost use Rattle.jn_places.specs.PlacedView.{placed_file};
-ghost use Rattle.jn_front.specs.Counted.{ReadsFit};
 ghost use Rattle.jn_front.specs.declared.source.SourceFile.{SourceFile as FileOf};
 ghost use Rattle.jn_front.specs.Files.{files_of_reads, AreReads, most_files};
 ghost use Rattle.jn_front.specs.Limits.{limit_rows};
@@ -28,7 +27,7 @@ use jn_kept_points::{
     nothing_unchanged,
 };
 use jn_phases::{TypedFiles, Typing, refused_texts};
-use jn_sharing::Gate;
+use jn_sharing::{Gate, Workers};
 use jn_trees::{FileTree, Names};
 use std::alloc::Global;
 use std::thread::Threads;
@@ -164,16 +163,13 @@ fn parse_or_refuse<R: Threads + Sync, G: Gate + Sync>(
     rt: &R,
     gate: &G,
     alloc: Global,
-    workers: u32,
+    workers: Workers,
     infer: Infer,
     reads: &[SourceRead],
     last: &[SourceFile],
     trees: Vec<Option<KeptTree>>,
 ) -> Result<Result<ParsedAgain, TypedAgain>, OutOfMemory>
-    requires workers { (1 ≤ workers) × (workers ≤ 16) }
     requires few { length reads.now ≤ most_files }
-    requires fit { ReadsFit reads.now }
-    requires read { (files : List FileOf) × AreReads reads.now files }
     requires kept { AreKeptTrees last.now trees.items }
     ensures parsed { IfOk result (λ all. IfOk all (λ parsed. AreParsedAgain reads.now parsed)) }
     ensures same { IfOk result (λ all. IfOk all (λ parsed.
@@ -208,16 +204,13 @@ pub fn type_files_again<R: Threads + Sync, G: Gate + Sync>(
     rt: &R,
     gate: &G,
     alloc: Global,
-    workers: u32,
+    workers: Workers,
     infer: Infer,
     reads: &[SourceRead],
     last: &[SourceFile],
     trees: Vec<Option<KeptTree>>,
 ) -> Result<TypedAgain, OutOfMemory>
-    requires workers { (1 ≤ workers) × (workers ≤ 16) }
     requires few { length reads.now ≤ most_files }
-    requires fit { ReadsFit reads.now }
-    requires read { (files : List FileOf) × AreReads reads.now files }
     requires kept { AreKeptTrees last.now trees.items }
     ensures typed { IfOk result (λ typed. (files : List FileOf) → AreReads reads.now files
         → (placed : List PlacedFile) × IsTypedOr infer files typed.names placed typed.rows typed.base) }
@@ -255,7 +248,7 @@ pub fn type_files_on<R: Threads + Sync, G: Gate + Sync>(
     rt: &R,
     gate: &G,
     alloc: Global,
-    workers: u32,
+    workers: Workers,
     infer: Infer,
     reads: &[SourceRead],
     last: &[SourceFile],
@@ -263,10 +256,7 @@ pub fn type_files_on<R: Threads + Sync, G: Gate + Sync>(
     base: &mut BaseTyped,
     typing: &KeptTyping,
 ) -> Result<TypedOn, OutOfMemory>
-    requires workers { (1 ≤ workers) × (workers ≤ 16) }
     requires few { length reads.now ≤ most_files }
-    requires fit { ReadsFit reads.now }
-    requires read { (files : List FileOf) × AreReads reads.now files }
     requires kept { AreKeptTrees last.now trees.items }
     requires earlier { (before : List PlacedFile) × HaveTrees trees.items before
         × IsTypingOf infer before base.old typing.now }

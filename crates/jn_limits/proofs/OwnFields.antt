@@ -6,8 +6,8 @@ use Rattle.jn_points.specs.declared.program.Program.{Program}
 use Rattle.jn_points.specs.Lookup.{class_of, ctor_of, field_info, owner_of, ref_field}
 use Rattle.jn_points.specs.Members.{below}
 use Rattle.jn_env.specs.Keys.{is_own}
-use Rattle.jn_member_tables.specs.Numbers.{list_at}
-use Rattle.jn_index.specs.Index.{Lists, IsIndex}
+use Rattle.jn_member_tables.specs.Numbers.{places_of}
+use Rattle.jn_index.specs.Index.{field_owners}
 use Rattle.jn_index.proofs.Named.{own_kept}
 
 second_off : (a b r : Bool) → b ≡ false → (a && b && r) ≡ false
@@ -15,5 +15,5 @@ second_off true true r h = cc
 second_off true false r h = refl
 second_off false b r h = refl
 
-pub own_listed : (P : Program) (x : Lists) (m : Option Method) → IsIndex P x → length (filter (is_own P m) (list_at x.own_fields (class_of m))) ≡ length (filter (is_own P m) (below (length P.fields)))
-own_listed P x m is = ap (λ (fs : List ℕ). length fs) (own_kept P x is (is_own P m) (class_of m) (λ k y at e. second_off (ctor_of m) (eqb (owner_of (field_info P k)) (class_of m)) (ref_field P k) (ap (λ o. eqb (owner_of o) (class_of m)) at ∙ e)))
+pub own_listed : (P : Program) (m : Option Method) → length (filter (is_own P m) (places_of (class_of m) 0 (field_owners P.fields))) ≡ length (filter (is_own P m) (below (length P.fields)))
+own_listed P m = ap (λ (fs : List ℕ). length fs) (own_kept P (is_own P m) (class_of m) (λ k y at e. second_off (ctor_of m) (eqb (owner_of (field_info P k)) (class_of m)) (ref_field P k) (ap (λ o. eqb (owner_of o) (class_of m)) at ∙ e)))

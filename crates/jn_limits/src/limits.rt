@@ -166,10 +166,10 @@ fn listed_count(program: &IndexedProgram, method: MethodNo) -> usize
 fn own_count(program: &IndexedProgram, method: MethodNo) -> usize
     ensures { result ≡ length (spec.own_fields program.now method.0) }
 {
-    match program.index() {
-        Some(index) => {
+    match program.indexed() {
+        Some(indexed) => {
             let class = class_of(program, method);
-            count_own(program, method, index.own_fields(class.0))
+            count_own(program, method, indexed.own_fields(class.0))
         }
         None => listed_count(program, method),
     }

@@ -13,7 +13,7 @@ use crate::unknown::is_empty;
 use jn_base::{OutOfMemory, Seq};
 use jn_lsp_actions::hints_for;
 use jn_lsp_text::{Hint, Message, Range};
-use jn_sharing::Gate;
+use jn_sharing::{Gate, Workers};
 use std::alloc::Global;
 use std::thread::Threads;
 
@@ -34,7 +34,7 @@ fn hints_of<R: Threads + Sync, G: Gate + Sync>(
         rt,
         gate,
         alloc,
-        WORKERS,
+        Workers::of(WORKERS),
         workspace.infer,
         workspace.encoding,
         files.as_slice(),

@@ -13,7 +13,7 @@ use crate::unknown::is_empty;
 use jn_base::OutOfMemory;
 use jn_lsp_hover::hover_for;
 use jn_lsp_text::{Hover, Message, Position};
-use jn_sharing::Gate;
+use jn_sharing::{Gate, Workers};
 use std::alloc::Global;
 use std::thread::Threads;
 
@@ -34,7 +34,7 @@ fn hover_of<R: Threads + Sync, G: Gate + Sync>(
         rt,
         gate,
         alloc,
-        WORKERS,
+        Workers::of(WORKERS),
         workspace.infer,
         workspace.encoding,
         files.as_slice(),

@@ -14,7 +14,7 @@ use jn_base::{OutOfMemory, Seq};
 use jn_lsp_actions::actions_for;
 use jn_lsp_actions::asking::meets;
 use jn_lsp_text::{Action, Diagnostic, Message, Range};
-use jn_sharing::Gate;
+use jn_sharing::{Gate, Workers};
 use std::alloc::Global;
 use std::thread::Threads;
 
@@ -50,7 +50,7 @@ fn actions_of<R: Threads + Sync, G: Gate + Sync>(
         rt,
         gate,
         alloc,
-        WORKERS,
+        Workers::of(WORKERS),
         workspace.infer,
         workspace.encoding,
         files.as_slice(),

@@ -13,7 +13,7 @@ use jn_phase_notes::{notes_of_phase, notes_of_texts};
 use jn_phases::law::files_have_one_typing;
 use jn_phases::{too_many_files, type_files};
 use jn_recheck::reads::reads_of;
-use jn_sharing::Gate;
+use jn_sharing::{Gate, Workers};
 use std::alloc::Global;
 use std::thread::Threads;
 
@@ -40,7 +40,7 @@ pub(crate) fn notes_of_refused<R: Threads + Sync, G: Gate + Sync>(
         let notes = notes_of_texts(alloc, &reads, rows)?;
         return Ok(notes);
     }
-    let typed = type_files(rt, gate, alloc, WORKERS, infer, &reads)?;
+    let typed = type_files(rt, gate, alloc, Workers::of(WORKERS), infer, &reads)?;
     let notes = notes_of_phase(rt, alloc, &reads, &typed.names, &typed.trees, rows)?;
     Ok(notes)
 }

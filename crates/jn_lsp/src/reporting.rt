@@ -12,7 +12,7 @@ use jn_front::SourceFile;
 use jn_lsp_text::Encoding;
 use jn_note_words::Notes;
 use jn_recheck::{Checked, Session};
-use jn_sharing::Gate;
+use jn_sharing::{Gate, Workers};
 use std::alloc::Global;
 use std::thread::Threads;
 
@@ -111,7 +111,7 @@ fn report<R: Threads + Sync, G: Gate + Sync>(
     ensures { IfOk result (λ tale. AreTold infer encoding last.now tale.came files.now tale.told.items) }
 {
     session.replace(files)?;
-    let checked = session.report(rt, WORKERS, gate, gate)?;
+    let checked = session.report(rt, Workers::of(WORKERS), gate, gate)?;
     let notes = notes_of(rt, gate, alloc, infer, session, files, &checked)?;
     let tale = tale_of(
         alloc,

@@ -1,7 +1,6 @@
 //! From files to the actions that are offered in one of them.
 ghost use Rattle.std.specs.Prelude.{◌≡◌, ◌≤◌, length, map, IfOk, IsSome, OnOk};
 ghost use Rattle.jn_contrib.specs.Entries.{AreOverriders};
-ghost use Rattle.jn_front.specs.Counted.{ReadsFit};
 ghost use Rattle.jn_front.specs.Files.{files_of_reads};
 ghost use Rattle.jn_inference_law.specs.Solution.{IsLeastSignature};
 ghost use Rattle.jn_notes.specs.Noted.{AreLeastTables};
@@ -35,7 +34,7 @@ use jn_origins::law::least_tables_are_sized;
 use jn_phases::{TypedFiles, too_many_files, type_files};
 use jn_places::law::places_are_forgotten;
 use jn_recheck::reads::reads_of;
-use jn_sharing::Gate;
+use jn_sharing::{Gate, Workers};
 use jn_sigs::Sig;
 use jn_system::{check_all, solve_sig};
 use jn_tables_law::law::regular_programs_can_be_inferred;
@@ -252,7 +251,6 @@ fn of_solved(
 ) -> Result<Seq<Action>, OutOfMemory>
     requires fit { AllFit files.now }
     requires few { length reads.now ≤ 64 }
-    requires reads { ReadsFit reads.now }
     requires whole { files_of_reads reads.now ≡ files.now }
     requires program { (typed : TypedProgramOf asked.now.infer files.now names.now base.now)
         × (typed.of_files.trees ≡ map placed_file trees.now) }
@@ -284,7 +282,7 @@ fn of_program<R: Threads + Sync, G: Gate + Sync>(
     rt: &R,
     gate: &G,
     alloc: Global,
-    workers: u32,
+    workers: Workers,
     reads: &[SourceRead],
     files: &[SourceFile],
     names: &Names,
@@ -292,10 +290,8 @@ fn of_program<R: Threads + Sync, G: Gate + Sync>(
     base: &BaseTyped,
     asked: &Asked,
 ) -> Result<Seq<Action>, OutOfMemory>
-    requires workers { (1 ≤ workers) × (workers ≤ 16) }
     requires fit { AllFit files.now }
     requires few { length reads.now ≤ 64 }
-    requires reads { ReadsFit reads.now }
     requires whole { files_of_reads reads.now ≡ files.now }
     requires program { (typed : TypedProgramOf asked.now.infer files.now names.now base.now)
         × (typed.of_files.trees ≡ map placed_file trees.now) }
@@ -315,16 +311,14 @@ fn finish<R: Threads + Sync, G: Gate + Sync>(
     rt: &R,
     gate: &G,
     alloc: Global,
-    workers: u32,
+    workers: Workers,
     reads: &[SourceRead],
     files: &[SourceFile],
     found: &TypedFiles,
     asked: &Asked,
 ) -> Result<Seq<Action>, OutOfMemory>
-    requires workers { (1 ≤ workers) × (workers ≤ 16) }
     requires fit { AllFit files.now }
     requires few { length reads.now ≤ 64 }
-    requires reads { ReadsFit reads.now }
     requires whole { IsSome found.now.base → files_of_reads reads.now ≡ files.now }
     requires typed { IsTypedOr asked.now.infer files.now found.now.names
         (map placed_file found.now.trees.items) found.now.rows found.now.base }
@@ -371,14 +365,13 @@ pub fn actions_for<R: Threads + Sync, G: Gate + Sync>(
     rt: &R,
     gate: &G,
     alloc: Global,
-    workers: u32,
+    workers: Workers,
     infer: Infer,
     encoding: Encoding,
     files: &[SourceFile],
     name: &str,
     range: Range,
 ) -> Result<Seq<Action>, OutOfMemory>
-    requires workers { (1 ≤ workers) × (workers ≤ 16) }
     requires fit { AllFit files.now }
     ensures { IfOk result (λ actions. AreActions infer encoding files.now name.now range actions) }
 {

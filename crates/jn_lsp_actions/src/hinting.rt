@@ -2,7 +2,6 @@
 ghost use Rattle.std.specs.Prelude.{◌≡◌, ◌≤◌, ◌<◌, ◌^◌, drop, length, map, IfOk, IsSome, false};
 ghost use Rattle.jn_annotate.specs.Chosen.{chosen_slots};
 ghost use Rattle.jn_annotate.specs.Insertions.{in_file};
-ghost use Rattle.jn_front.specs.Counted.{ReadsFit};
 ghost use Rattle.jn_front.specs.Files.{files_of_reads};
 ghost use Rattle.jn_inference_law.specs.Solution.{IsLeastSignature};
 ghost use Rattle.jn_places.specs.PlacedView.{placed_file};
@@ -30,7 +29,7 @@ use jn_phases::{TypedFiles, too_many_files, type_files};
 use jn_places::law::places_are_forgotten;
 use jn_points::{Field, Method, Program};
 use jn_recheck::reads::reads_of;
-use jn_sharing::Gate;
+use jn_sharing::{Gate, Workers};
 use jn_sigs::Sig;
 use jn_system::solve_sig;
 use jn_tables_law::law::regular_programs_can_be_inferred;
@@ -186,7 +185,6 @@ fn of_solved(
 ) -> Result<Seq<Hint>, OutOfMemory>
     requires fit { AllFit files.now }
     requires few { length reads.now ≤ 64 }
-    requires reads { ReadsFit reads.now }
     requires whole { files_of_reads reads.now ≡ files.now }
     requires program { (typed : TypedProgramOf asked.now.infer files.now names.now base.now)
         × (typed.of_files.trees ≡ map placed_file trees.now) }
@@ -215,7 +213,7 @@ fn of_program<R: Threads + Sync, G: Gate + Sync>(
     rt: &R,
     gate: &G,
     alloc: Global,
-    workers: u32,
+    workers: Workers,
     reads: &[SourceRead],
     files: &[SourceFile],
     names: &Names,
@@ -223,10 +221,8 @@ fn of_program<R: Threads + Sync, G: Gate + Sync>(
     base: &BaseTyped,
     asked: &Asked,
 ) -> Result<Seq<Hint>, OutOfMemory>
-    requires workers { (1 ≤ workers) × (workers ≤ 16) }
     requires fit { AllFit files.now }
     requires few { length reads.now ≤ 64 }
-    requires reads { ReadsFit reads.now }
     requires whole { files_of_reads reads.now ≡ files.now }
     requires program { (typed : TypedProgramOf asked.now.infer files.now names.now base.now)
         × (typed.of_files.trees ≡ map placed_file trees.now) }
@@ -244,16 +240,14 @@ fn finish<R: Threads + Sync, G: Gate + Sync>(
     rt: &R,
     gate: &G,
     alloc: Global,
-    workers: u32,
+    workers: Workers,
     reads: &[SourceRead],
     files: &[SourceFile],
     found: &TypedFiles,
     asked: &Asked,
 ) -> Result<Seq<Hint>, OutOfMemory>
-    requires workers { (1 ≤ workers) × (workers ≤ 16) }
     requires fit { AllFit files.now }
     requires few { length reads.now ≤ 64 }
-    requires reads { ReadsFit reads.now }
     requires whole { IsSome found.now.base → files_of_reads reads.now ≡ files.now }
     requires typed { IsTypedOr asked.now.infer files.now found.now.names
         (map placed_file found.now.trees.items) found.now.rows found.now.base }
@@ -291,14 +285,13 @@ pub fn hints_for<R: Threads + Sync, G: Gate + Sync>(
     rt: &R,
     gate: &G,
     alloc: Global,
-    workers: u32,
+    workers: Workers,
     infer: Infer,
     encoding: Encoding,
     files: &[SourceFile],
     name: &str,
     range: Range,
 ) -> Result<Seq<Hint>, OutOfMemory>
-    requires workers { (1 ≤ workers) × (workers ≤ 16) }
     requires fit { AllFit files.now }
     ensures { IfOk result (λ hints. spec.AreHints infer encoding files.now name.now range hints) }
 {

@@ -33,7 +33,7 @@ use jn_origins::law::least_tables_are_sized;
 use jn_phases::{TypedFiles, too_many_files, type_files};
 use jn_quals::Qual;
 use jn_recheck::reads::reads_of;
-use jn_sharing::Gate;
+use jn_sharing::{Gate, Workers};
 use jn_sigs::Sig;
 use jn_system::solve_sig;
 use jn_tables_law::law::regular_programs_can_be_inferred;
@@ -298,14 +298,13 @@ fn of_program<R: Threads + Sync, G: Gate + Sync>(
     rt: &R,
     gate: &G,
     alloc: Global,
-    workers: u32,
+    workers: Workers,
     files: &[SourceFile],
     names: &Names,
     trees: &[FileTree],
     base: &BaseTyped,
     asked: &Asked,
 ) -> Result<Option<Hover>, OutOfMemory>
-    requires workers { (1 ≤ workers) × (workers ≤ 16) }
     requires fit { AllFit files.now }
     requires program { (typed : TypedProgramOf asked.now.infer files.now names.now base.now)
         × (typed.of_files.trees ≡ map placed_file trees.now) }
@@ -323,12 +322,11 @@ fn finish<R: Threads + Sync, G: Gate + Sync>(
     rt: &R,
     gate: &G,
     alloc: Global,
-    workers: u32,
+    workers: Workers,
     files: &[SourceFile],
     found: &TypedFiles,
     asked: &Asked,
 ) -> Result<Option<Hover>, OutOfMemory>
-    requires workers { (1 ≤ workers) × (workers ≤ 16) }
     requires fit { AllFit files.now }
     requires typed { IsTypedOr asked.now.infer files.now found.now.names
         (map placed_file found.now.trees.items) found.now.rows found.now.base }
@@ -368,14 +366,13 @@ pub fn hover_for<R: Threads + Sync, G: Gate + Sync>(
     rt: &R,
     gate: &G,
     alloc: Global,
-    workers: u32,
+    workers: Workers,
     infer: Infer,
     encoding: Encoding,
     files: &[SourceFile],
     name: &str,
     position: Position,
 ) -> Result<Option<Hover>, OutOfMemory>
-    requires workers { (1 ≤ workers) × (workers ≤ 16) }
     requires fit { AllFit files.now }
     ensures { IfOk result (λ hover. spec.IsHover infer encoding files.now name.now position hover) }
 {

@@ -12,9 +12,10 @@ use crate::solved::Solved;
 use jn_base::{OutOfMemory, SlotNo};
 use jn_note_words::owners::Owner;
 use jn_note_words::{Note, Notes};
+use jn_notes::SolvedProgram;
 use jn_notes::explain::{no_notes, notes_from};
 use jn_origins::LeastOrigins;
-use jn_origins::law::{least_tables_are_sized, what_stands_has_a_chain};
+use jn_origins::law::what_stands_has_a_chain;
 use jn_quals::Qual;
 use jn_reasons_law::{Bit, Item};
 use std::alloc::{AllocError, Global};
@@ -32,36 +33,19 @@ fn is_on(qual: Qual, bit: Bit) -> bool
 /// The notes of the first chain of a bit, where the slot has it.
 fn notes_of_bit(
     alloc: Global,
-    solved: &Solved,
-    origins: &LeastOrigins,
-    owners: &[Option<Owner>],
+    of: &SolvedProgram,
     slot: u32,
     bit: Bit,
 ) -> Result<Notes, OutOfMemory>
-    requires inferable { IsInferable solved.now.program.now }
-    requires least { IsLeastSignature solved.now.program.now solved.now.sig.now }
-    requires solved { AreLeastTables solved.now.program.now solved.now.sig.now solved.now.tables.now }
-    requires program { origins.now.program ≡ solved.now.program.now }
-    requires sig { origins.now.sig ≡ solved.now.sig.now }
-    requires tables { origins.now.tables ≡ solved.now.tables.now }
-    requires owners { AreOwners solved.now.program.now owners.now }
     ensures { IfOk result (λ notes.
-        AreFrom solved.now.program.now solved.now.names.now solved.now.sig.now solved.now.tables.now
-        (bit_item slot (slice_index_or solved.now.sig.now slot no_qual) bit) notes) }
+        AreFrom of.now.program of.now.names of.now.sig of.now.tables
+        (bit_item slot (slice_index_or of.now.sig slot no_qual) bit) notes) }
 {
     what_stands_has_a_chain();
-    least_tables_are_sized();
-    if is_on(solved.sig.get(SlotNo(slot)), bit) {
-        notes_from(
-            alloc,
-            solved.program,
-            solved.names,
-            solved.sig,
-            solved.tables,
-            origins,
-            owners,
-            Item::AtSlot(slot, bit),
-        )
+    of.facts();
+    let basis = of.basis();
+    if is_on(basis.sig.get(SlotNo(slot)), bit) {
+        notes_from(alloc, of, Item::AtSlot(slot, bit))
     } else {
         Ok(no_notes(alloc))
     }
@@ -99,8 +83,9 @@ pub fn reasons_of(
         AreReasons solved.now.names.now solved.now.program.now
         solved.now.sig.now solved.now.tables.now slot notes.items) }
 {
-    let null = notes_of_bit(alloc, solved, origins, owners, slot, Bit::Nullable)?;
-    let free = notes_of_bit(alloc, solved, origins, owners, slot, Bit::Free)?;
+    let of = SolvedProgram::new(solved.names, owners, origins);
+    let null = notes_of_bit(alloc, &of, slot, Bit::Nullable)?;
+    let free = notes_of_bit(alloc, &of, slot, Bit::Free)?;
     let all = joined(null, free)?;
     Ok(all)
 }

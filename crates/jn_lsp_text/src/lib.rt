@@ -18,6 +18,7 @@ pub mod message;
 pub mod position;
 pub mod range;
 pub mod reply;
+pub mod small;
 pub mod sweep;
 
 pub use choice::{Choice, choice_named, chosen};
@@ -34,3 +35,4 @@ pub use position::{
 };
 pub use range::{Range, range_of, ranges_have_one_replacement, replace};
 pub use reply::{Action, Diagnostic, Failure, Hint, Hover, Insertion, Related, Reply, Said};
+pub use small::SmallText;

@@ -30,7 +30,6 @@ pub fn start_of(encoding: Encoding, text: &[u8]) -> Place
 
 /// The byte at `to`, from one before it on.
 fn counted_on(encoding: Encoding, text: &[u8], place: Place, to: usize) -> Place
-    requires small { length text.now < 2 ^ 30 }
     requires place { IsPlaceIn encoding text.now place }
     requires before { place.at ≤ to }
     requires within { to ≤ length text.now }
@@ -46,7 +45,6 @@ fn counted_on(encoding: Encoding, text: &[u8], place: Place, to: usize) -> Place
 
 /// The byte at `to`: counted on from a byte that isn't after it, else from the text's begin.
 fn place_from(encoding: Encoding, text: &[u8], place: Place, to: usize) -> Place
-    requires small { length text.now < 2 ^ 30 }
     requires place { IsPlaceIn encoding text.now place }
     requires within { to ≤ length text.now }
     ensures place { IsPlaceIn encoding text.now result }

@@ -11,7 +11,7 @@ pub mod unkept;
 pub mod words;
 
 pub use note::{Note, Notes};
-pub use owners::{Owner, find_owners, owner_at};
+pub use owners::{OwnedProgram, Owner, find_owners, owner_at};
 pub use spans::step_span;
 pub use unkept::preceded;
 pub use words::step_words;

@@ -1,10 +1,11 @@
 //! Whose slots are whose.
 ghost use Rattle.std.specs.Prelude.{◌≡◌, ◌<◌, ◌^◌, IfOk, cond, eqb, length, None, Some, slice_index_or};
-ghost use Rattle.jn_note_words.specs.Owned.{AreOwners, Filled, by_field, by_fields, by_method, by_methods, by_parameters, if_slot};
+ghost use Rattle.jn_note_words.specs.Owned.{AreOwners, Filled, by_field, by_fields, by_method, by_methods, by_parameters, if_slot, owner_of};
 
 use jn_base::SlotNo;
 use jn_points::{Field, Method, Program};
 use std::alloc::{AllocError, Global};
+use std::marker::Model;
 
 /// What has a slot: a field, a parameter of a method by its number from 0, or a method's receiver or result.
 #[derive(Clone, Copy, Debug, PartialEq, Eq)]
@@ -101,5 +102,47 @@ pub fn owner_at(owners: &[Option<Owner>], slot: u32) -> Option<Owner>
     match owners.get(slot as usize) {
         None => None,
         Some(owner) => *owner,
+    }
+}
+
+/// A program, with what has each of its slots. Contracts see the program.
+#[derive(Drop)]
+pub struct OwnedProgram<'a> {
+    program: &'a Program,
+    owners: &'a [Option<Owner>],
+}
+
+impl<'a> Model for OwnedProgram<'a> {
+    ghost use Rattle.jn_points.specs.declared.program.Program.{Program as ProgramOf};
+    ghost use Rattle.jn_note_words.specs.Owned.{AreOwners};
+
+    ghost Value = { ProgramOf };
+
+    ghost view = { λ o. o.program.now };
+
+    ghost invariant = { λ o. AreOwners o.program.now o.owners.now };
+}
+
+impl<'a> OwnedProgram<'a> {
+    /// A program, the owners of whose slots these are.
+    pub fn new(program: &'a Program, owners: &'a [Option<Owner>]) -> OwnedProgram<'a>
+        requires { AreOwners program.now owners.now }
+        ensures { result ≡ program.now }
+    {
+        OwnedProgram { program, owners }
+    }
+
+    /// The program.
+    pub fn program(&self) -> &'a Program
+        ensures { result.now ≡ self.now }
+    {
+        self.program
+    }
+
+    /// The owner of a slot; none where it is no slot.
+    pub(crate) fn owner_at(&self, slot: u32) -> Option<Owner>
+        ensures { result ≡ owner_of self.now slot }
+    {
+        owner_at(self.owners, slot)
     }
 }

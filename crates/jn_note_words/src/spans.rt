@@ -1,10 +1,9 @@
 //! Where steps stand in the text.
 ghost use Rattle.std.specs.Prelude.{◌≡◌, MatchOption, None, Some, slice_get, slice_index_or};
 ghost use Rattle.jn_points.specs.Lookup.{field_info, method_at, method_in, point_at};
-ghost use Rattle.jn_note_words.specs.Owned.{AreOwners};
 ghost use Rattle.jn_note_words.specs.Worded as spec;
 
-use crate::owners::{Owner, owner_at};
+use crate::owners::{OwnedProgram, Owner};
 use jn_base::{FieldNo, FileNo, Span};
 use jn_points::lookup::{field_info, method_at, method_in};
 use jn_points::{Operand, Point, PointKind, Program};
@@ -143,39 +142,30 @@ pub fn owner_span(program: &Program, owner: Option<Owner>) -> Span
 }
 
 /// Where a place stands in the text from which a slot of this owner, or else a register, has its bit.
-fn place_span(
-    program: &Program,
-    owners: &[Option<Owner>],
-    owner: Option<Owner>,
-    place: Place,
-) -> Span
-    requires owners { AreOwners program.now owners.now }
+fn place_span(program: &OwnedProgram, owner: Option<Owner>, place: Place) -> Span
     ensures { result ≡ spec.place_span program.now owner place }
 {
     match place {
-        Place::OfSlot(slot) => owner_span(program, owner_at(owners, slot)),
-        Place::OfMethod(method) => method_span(program, method),
-        Place::OfBody(body) => head_span(program, body),
-        Place::OfPoint(body, point) => sent_span(program, owner, body, point),
+        Place::OfSlot(slot) => owner_span(program.program(), program.owner_at(slot)),
+        Place::OfMethod(method) => method_span(program.program(), method),
+        Place::OfBody(body) => head_span(program.program(), body),
+        Place::OfPoint(body, point) => sent_span(program.program(), owner, body, point),
     }
 }
 
-fn item_owner(program: &Program, owners: &[Option<Owner>], item: Item) -> Option<Owner>
-    requires owners { AreOwners program.now owners.now }
+fn item_owner(program: &OwnedProgram, item: Item) -> Option<Owner>
     ensures { result ≡ spec.item_owner program.now item }
 {
-    let _program = program;
     match item {
-        Item::AtSlot(slot, _) => owner_at(owners, slot),
+        Item::AtSlot(slot, _) => program.owner_at(slot),
         Item::AtRegister(_, _, _, _) => None,
     }
 }
 
 /// Where the place of a step stands in the text: for a parameter's slot the argument that is passed to it, else the declaration or the point itself.
-pub fn step_span(program: &Program, owners: &[Option<Owner>], step: Step) -> Span
-    requires owners { AreOwners program.now owners.now }
+pub fn step_span(program: &OwnedProgram, step: Step) -> Span
     ensures { result ≡ spec.step_span program.now step }
 {
-    let owner = item_owner(program, owners, step.item);
-    place_span(program, owners, owner, step.place)
+    let owner = item_owner(program, step.item);
+    place_span(program, owner, step.place)
 }

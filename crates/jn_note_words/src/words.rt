@@ -1,10 +1,9 @@
 //! Steps in words.
 ghost use Rattle.std.specs.Prelude.{◌≡◌, ◌++◌, codes, IfOk, OnOk, None, Some};
 ghost use Rattle.jn_points.specs.Lookup.{field_info, method_at, point_at};
-ghost use Rattle.jn_note_words.specs.Owned.{AreOwners};
 ghost use Rattle.jn_note_words.specs.Worded as spec;
 
-use crate::owners::{Owner, owner_at};
+use crate::owners::{OwnedProgram, Owner};
 use crate::spans::point_at;
 use jn_base::{FieldNo, NameNo};
 use jn_points::lookup::{field_info, method_at};
@@ -232,25 +231,23 @@ fn slot_words(
 /// No memory was found.
 pub fn step_words(
     alloc: Global,
-    program: &Program,
+    program: &OwnedProgram,
     names: &Names,
-    owners: &[Option<Owner>],
     step: Step,
 ) -> Result<Vec<u8>, AllocError>
-    requires owners { AreOwners program.now owners.now }
     ensures { IfOk result (λ words. words.items ≡ spec.step_words program.now names.now step) }
 {
     match step.item {
         Item::AtSlot(slot, bit) => slot_words(
             alloc,
-            program,
+            program.program(),
             names,
-            owner_at(owners, slot),
+            program.owner_at(slot),
             bit,
             step.place,
         ),
         Item::AtRegister(_, _, _, _) => {
-            Vec::from_slice(alloc, end_words(program, step.place).as_bytes())
+            Vec::from_slice(alloc, end_words(program.program(), step.place).as_bytes())
         }
     }
 }

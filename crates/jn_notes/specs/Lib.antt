@@ -6,3 +6,5 @@ pub mod Spoken
 pub mod Noted
 pub mod Found
 pub mod Said
+pub mod Walked
+pub mod Placed

@@ -1,54 +1,43 @@
 //! The notes of rows.
-ghost use Rattle.std.specs.Prelude.{◌≡◌, ◌<◌, ◌-◌, ◌++◌, [], IfOk, List, OnOk, length, map, take, true, Some};
+ghost use Rattle.std.specs.Prelude.{◌≡◌, ◌-◌, ◌++◌, [], IfOk, List, OnOk, length, map, take, true, Some};
 ghost use Rattle.jn_contrib.specs.Entries.{AreOverriders};
 ghost use Rattle.jn_tables_law.specs.Inferable.{IsInferable};
 ghost use Rattle.jn_inference_law.specs.Solution.{IsLeastSignature};
 ghost use Rattle.jn_reasons_law.specs.Chains.{HasChain};
 ghost use Rattle.jn_reasons_law.specs.declared.item.Step.{Step};
-ghost use Rattle.jn_chain.specs.Keys.{IsEnd, kept_of, rest_of};
-ghost use Rattle.jn_chain.specs.Search.{AreRests};
 ghost use Rattle.jn_chain.specs.Told.{told_of};
-ghost use Rattle.jn_sites.specs.Marks.{AreSites};
 ghost use Rattle.jn_sites.specs.Near.{AreNear};
 ghost use Rattle.jn_notes.specs.Asked.{item_of};
-ghost use Rattle.jn_notes.specs.Noted.{AreBy, AreEach, AreFrom, AreLeastTables, AreNotes, AreNotesOf, before_last, headed, last_of, left_out, most_shown, no_notes, note_of, noted};
-ghost use Rattle.jn_note_words.specs.Owned.{AreOwners};
-ghost use Rattle.jn_notes.specs.declared.said.Said.{Said};
-ghost use Rattle.jn_notes.specs.declared.voids.ReadAt.{ReadAt};
-ghost use Rattle.jn_notes.specs.Said.{AreSaid, said_of};
+ghost use Rattle.jn_notes.specs.Noted.{AreEach, AreFrom, AreNotes, AreNotesOf, before_last, headed, last_of, left_out, most_shown, no_notes, note_of, noted};
 ghost use Rattle.jn_reasons_law.specs.Choice as choice;
-ghost use Rattle.jn_origins.specs.Standing.{AreSized};
-ghost use Rattle.jn_voided.specs.Kept.{AreTurned};
 
 use crate::found::register_item_at;
 use crate::pairs::{part_of, slot_item};
+use crate::placed::Placed;
 use crate::reads::{register_item, sought_of};
-use crate::said::{Said, say};
+use crate::solved::SolvedProgram;
 use crate::tables::least_tables;
 use crate::topics::{Topic, topic_notes, topics_of};
-use crate::voids::find_voids;
+use crate::walk::Walk;
 use jn_base::lists::put;
 use jn_base::{OutOfMemory, Row, Seq};
-use jn_chain::first::shortest_ways_are_first_chains;
-use jn_chain::{Chains, Kept, Told};
+use jn_chain::Told;
 use jn_contrib::{Overrider, overriders};
 use jn_env::FlowTable;
 use jn_index::indexed::IndexedProgram;
 use jn_note_words::note::{Note, Notes};
-use jn_note_words::owners::{Owner, find_owners};
+use jn_note_words::owners::{OwnedProgram, find_owners};
 use jn_note_words::preceded;
 use jn_note_words::spans::step_span;
 use jn_note_words::words::step_words;
 use jn_origins::LeastOrigins;
 use jn_origins::law::{least_tables_are_sized, what_stands_has_a_chain};
 use jn_points::Program;
-use jn_reasons::Spot;
 use jn_reasons_law::{Item, Step};
 use jn_sigs::Sig;
-use jn_sites::{Sites, find_near, find_sites, overriders_at, spans_of};
+use jn_sites::{find_near, find_sites, overriders_at, spans_of};
 use jn_tables_law::law::rounds_give_the_least_table;
 use jn_trees::Names;
-use jn_voided::Voids;
 use std::alloc::{AllocError, Global};
 
 /// The greatest number of steps that are shown of a row, and of declarations.
@@ -57,21 +46,19 @@ pub(crate) const MOST_SHOWN: usize = 8;
 /// A step in words, and where it stands, and whether the chain ends there.
 fn note_of(
     alloc: Global,
-    program: &Program,
+    program: &OwnedProgram,
     names: &Names,
-    owners: &[Option<Owner>],
     ends: bool,
     step: Step,
 ) -> Result<Note, AllocError>
-    requires owners { AreOwners program.now owners.now }
     ensures { IfOk result (λ note. note ≡ note_of program.now names.now ends step) }
 {
-    let words = step_words(alloc, program, names, owners, step)?;
+    let words = step_words(alloc, program, names, step)?;
     Ok(Note {
         joined: false,
         ends,
         words: Seq::of_vec(words),
-        span: step_span(program, owners, step),
+        span: step_span(program, step),
     })
 }
 
@@ -79,18 +66,16 @@ fn note_of(
 fn put_steps(
     notes: &mut Vec<Note>,
     alloc: Global,
-    program: &Program,
+    program: &OwnedProgram,
     names: &Names,
-    owners: &[Option<Owner>],
     ends: bool,
     steps: &[Step],
 ) -> Result<(), AllocError>
-    requires owners { AreOwners program.now owners.now }
     ensures { OnOk result
         (notes.new.items ≡ notes.old.items ++ map (note_of program.now names.now ends) steps.now) }
 {
     for step in steps {
-        let note = note_of(alloc, program, names, owners, ends, *step)?;
+        let note = note_of(alloc, program, names, ends, *step)?;
         put(notes, note)?;
     }
     Ok(())
@@ -140,38 +125,20 @@ fn more(steps: usize) -> usize
 }
 
 /// These notes, and the steps that are shown of those that are told, in words.
-fn noted(
+pub(crate) fn noted(
     alloc: Global,
-    program: &Program,
+    program: &OwnedProgram,
     names: &Names,
-    owners: &[Option<Owner>],
     voids: Vec<Note>,
     told: &Told,
 ) -> Result<Notes, AllocError>
-    requires owners { AreOwners program.now owners.now }
     ensures { IfOk result (λ notes. (steps : List Step) → told.now ≡ told_of most_shown steps
         → notes ≡ noted program.now names.now voids.items (choice.told steps)) }
 {
     let mut notes = voids;
     let steps = told.shown.as_slice();
-    put_steps(
-        &mut notes,
-        alloc,
-        program,
-        names,
-        owners,
-        false,
-        before_last(steps),
-    )?;
-    put_steps(
-        &mut notes,
-        alloc,
-        program,
-        names,
-        owners,
-        true,
-        last_of(steps),
-    )?;
+    put_steps(&mut notes, alloc, program, names, false, before_last(steps))?;
+    put_steps(&mut notes, alloc, program, names, true, last_of(steps))?;
     Ok(Notes {
         shown: Seq::of_vec(notes),
         more: more(told.count),
@@ -207,208 +174,57 @@ pub fn item_of(
 }
 
 /// The same by what is kept for the row's place: the overriders that stand there, and the points at which a value stands there.
-pub fn item_at(
-    program: &Program,
-    sig: &Sig,
-    tables: &[FlowTable],
-    overriders: &[Overrider],
-    sites: &Sites<Spot>,
-    row: Row,
-) -> Option<Item>
-    requires inferable { IsInferable program.now }
-    requires overriders { AreNear program.now row.span overriders.now }
-    requires sites { AreSites program.now sites.now }
-    ensures { result ≡ item_of program.now sig.now row tables.now }
+fn item_at(placed: &Placed, overriders: &[Overrider], row: Row) -> Option<Item>
+    requires overriders { AreNear placed.now.basis.program.now row.span overriders.now }
+    ensures { result
+        ≡ item_of placed.now.basis.program.now placed.now.basis.sig.now row
+        placed.now.basis.tables.now }
 {
+    let basis = placed.basis;
     match sought_of(row) {
-        None => slot_item(sig, row.span, part_of(row.code), program, overriders),
-        Some(sought) => register_item_at(sought, sites, program, sig, tables),
+        None => slot_item(
+            basis.sig,
+            row.span,
+            part_of(row.code),
+            basis.program,
+            overriders,
+        ),
+        Some(sought) => register_item_at(sought, placed),
     }
-}
-
-/// The notes of what is said of a chain.
-fn notes_by(
-    alloc: Global,
-    program: &Program,
-    names: &Names,
-    sig: &Sig,
-    tables: &[FlowTable],
-    voids: &mut Voids,
-    owners: &[Option<Owner>],
-    said: &Said,
-) -> Result<Notes, OutOfMemory>
-    requires inferable { IsInferable program.now }
-    requires sized { AreSized program.now tables.now }
-    requires inside { (x : ReadAt) → said.now.read ≡ Some x
-        → x.body < length program.now.bodies }
-    requires owners { AreOwners program.now owners.now }
-    requires voids { AreTurned program.now sig.now tables.now voids.old }
-    ensures voids { IfOk result (λ notes. AreTurned program.now sig.now tables.now voids.new) }
-    ensures notes { IfOk result (λ notes. (steps : List Step) → said.now ≡ said_of program.now steps
-        → AreBy program.now names.now sig.now tables.now steps notes) }
-{
-    let list = find_voids(alloc, program, names, sig, tables, voids, said.read)?;
-    let notes = noted(alloc, program, names, owners, list, &said.told)?;
-    Ok(notes)
-}
-
-/// The notes of an item of whose chain something is said.
-fn notes_said(
-    alloc: Global,
-    program: &Program,
-    names: &Names,
-    sig: &Sig,
-    tables: &[FlowTable],
-    origins: &LeastOrigins,
-    said: &Kept<Said>,
-    voids: &mut Voids,
-    owners: &[Option<Owner>],
-    item: Item,
-) -> Result<Notes, OutOfMemory>
-    requires inferable { IsInferable program.now }
-    requires sized { AreSized program.now tables.now }
-    requires program { origins.now.program ≡ program.now }
-    requires sig { origins.now.sig ≡ sig.now }
-    requires tables { origins.now.tables ≡ tables.now }
-    requires said { AreSaid origins.now (kept_of Said said.now) }
-    requires there { IsEnd Said (kept_of Said said.now) (Some item) }
-    requires chain { HasChain program.now origins.now.sig origins.now.tables item }
-    requires owners { AreOwners program.now owners.now }
-    requires voids { AreTurned program.now sig.now tables.now voids.old }
-    ensures voids { IfOk result (λ notes. AreTurned program.now sig.now tables.now voids.new) }
-    ensures notes { IfOk result
-        (λ notes. AreFrom program.now names.now sig.now tables.now (Some item) notes) }
-{
-    shortest_ways_are_first_chains();
-    let _origins = origins;
-    match said.get(item) {
-        None => unreachable!(),
-        Some(found) => {
-            let notes = notes_by(alloc, program, names, sig, tables, voids, owners, found)?;
-            Ok(notes)
-        }
-    }
-}
-
-/// The notes of an item from which a chain goes, with what is known of chains and what is said of them.
-fn next_notes_from(
-    alloc: Global,
-    program: &Program,
-    names: &Names,
-    sig: &Sig,
-    tables: &[FlowTable],
-    origins: &LeastOrigins,
-    chains: &mut Chains,
-    said: &mut Kept<Said>,
-    voids: &mut Voids,
-    owners: &[Option<Owner>],
-    item: Item,
-) -> Result<Notes, OutOfMemory>
-    requires inferable { IsInferable program.now }
-    requires sized { AreSized program.now tables.now }
-    requires program { origins.now.program ≡ program.now }
-    requires sig { origins.now.sig ≡ sig.now }
-    requires tables { origins.now.tables ≡ tables.now }
-    requires rests { AreRests origins.now (rest_of chains.old) }
-    requires said { AreSaid origins.now (kept_of Said said.old) }
-    requires voids { AreTurned program.now sig.now tables.now voids.old }
-    requires chain { HasChain program.now origins.now.sig origins.now.tables item }
-    requires owners { AreOwners program.now owners.now }
-    ensures rests { IfOk result (λ notes. AreRests origins.now (rest_of chains.new)) }
-    ensures said { IfOk result (λ notes. AreSaid origins.now (kept_of Said said.new)) }
-    ensures voids { IfOk result (λ notes. AreTurned program.now sig.now tables.now voids.new) }
-    ensures notes { IfOk result
-        (λ notes. AreFrom program.now names.now sig.now tables.now (Some item) notes) }
-{
-    say(alloc, program, origins, chains, said, item)?;
-    let notes = notes_said(
-        alloc, program, names, sig, tables, origins, said, voids, owners, item,
-    )?;
-    Ok(notes)
 }
 
 /// The notes of an item from which a chain goes: what is told of the first chain from it.
 ///
 /// # Errors
 /// No memory was found.
-pub fn notes_from(
-    alloc: Global,
-    program: &Program,
-    names: &Names,
-    sig: &Sig,
-    tables: &[FlowTable],
-    origins: &LeastOrigins,
-    owners: &[Option<Owner>],
-    item: Item,
-) -> Result<Notes, OutOfMemory>
-    requires inferable { IsInferable program.now }
-    requires sized { AreSized program.now tables.now }
-    requires program { origins.now.program ≡ program.now }
-    requires sig { origins.now.sig ≡ sig.now }
-    requires tables { origins.now.tables ≡ tables.now }
-    requires chain { HasChain program.now origins.now.sig origins.now.tables item }
-    requires owners { AreOwners program.now owners.now }
-    ensures { IfOk result (λ notes. AreFrom program.now names.now sig.now tables.now (Some item) notes) }
+pub fn notes_from(alloc: Global, of: &SolvedProgram, item: Item) -> Result<Notes, OutOfMemory>
+    requires { HasChain of.now.program of.now.sig of.now.tables item }
+    ensures { IfOk result (λ notes.
+        AreFrom of.now.program of.now.names of.now.sig of.now.tables (Some item) notes) }
 {
-    let mut chains = Chains::new(alloc);
-    let mut said = Kept::new(alloc);
-    let mut voids = Voids::new(alloc);
-    let notes = next_notes_from(
-        alloc,
-        program,
-        names,
-        sig,
-        tables,
-        origins,
-        &mut chains,
-        &mut said,
-        &mut voids,
-        owners,
-        item,
-    )?;
+    let mut walk = Walk::new(alloc, of);
+    let notes = walk.notes_from(alloc, item)?;
     Ok(notes)
 }
 
 /// The notes of a row's item.
 fn notes_behind(
     alloc: Global,
-    program: &Program,
-    names: &Names,
-    sig: &Sig,
-    tables: &[FlowTable],
-    origins: &LeastOrigins,
-    chains: &mut Chains,
-    said: &mut Kept<Said>,
-    voids: &mut Voids,
-    owners: &[Option<Owner>],
+    walk: &mut Walk,
     row: Row,
     item: Option<Item>,
 ) -> Result<Notes, OutOfMemory>
-    requires inferable { IsInferable program.now }
-    requires least { IsLeastSignature program.now sig.now }
-    requires solved { AreLeastTables program.now sig.now tables.now }
-    requires program { origins.now.program ≡ program.now }
-    requires sig { origins.now.sig ≡ sig.now }
-    requires tables { origins.now.tables ≡ tables.now }
-    requires rests { AreRests origins.now (rest_of chains.old) }
-    requires said { AreSaid origins.now (kept_of Said said.old) }
-    requires voids { AreTurned program.now sig.now tables.now voids.old }
-    requires owners { AreOwners program.now owners.now }
-    requires item { item ≡ item_of program.now sig.now row tables.now }
-    ensures rests { IfOk result (λ notes. AreRests origins.now (rest_of chains.new)) }
-    ensures said { IfOk result (λ notes. AreSaid origins.now (kept_of Said said.new)) }
-    ensures voids { IfOk result (λ notes. AreTurned program.now sig.now tables.now voids.new) }
-    ensures notes { IfOk result
-        (λ notes. AreFrom program.now names.now sig.now tables.now item notes) }
+    requires item { item ≡ item_of walk.old.program walk.old.sig row walk.old.tables }
+    ensures same { IfOk result (λ notes. walk.new ≡ walk.old) }
+    ensures notes { IfOk result (λ notes.
+        AreFrom walk.old.program walk.old.names walk.old.sig walk.old.tables item notes) }
 {
     what_stands_has_a_chain();
-    least_tables_are_sized();
+    walk.program().facts();
     let _row = row;
     match item {
         None => Ok(no_notes(alloc)),
-        Some(item) => next_notes_from(
-            alloc, program, names, sig, tables, origins, chains, said, voids, owners, item,
-        ),
+        Some(item) => walk.notes_from(alloc, item),
     }
 }
 
@@ -455,93 +271,53 @@ fn headed(
 /// The notes of a row.
 fn notes_of(
     alloc: Global,
-    program: &Program,
-    names: &Names,
-    sig: &Sig,
-    tables: &[FlowTable],
+    walk: &mut Walk,
+    placed: &Placed,
     overriders: &[Overrider],
-    origins: &LeastOrigins,
-    chains: &mut Chains,
-    said: &mut Kept<Said>,
-    voids: &mut Voids,
-    sites: &Sites<Spot>,
-    owners: &[Option<Owner>],
     row: Row,
 ) -> Result<Notes, OutOfMemory>
-    requires inferable { IsInferable program.now }
-    requires least { IsLeastSignature program.now sig.now }
-    requires solved { AreLeastTables program.now sig.now tables.now }
-    requires overriders { AreNear program.now row.span overriders.now }
-    requires program { origins.now.program ≡ program.now }
-    requires sig { origins.now.sig ≡ sig.now }
-    requires tables { origins.now.tables ≡ tables.now }
-    requires rests { AreRests origins.now (rest_of chains.old) }
-    requires said { AreSaid origins.now (kept_of Said said.old) }
-    requires voids { AreTurned program.now sig.now tables.now voids.old }
-    requires sites { AreSites program.now sites.now }
-    requires owners { AreOwners program.now owners.now }
-    ensures rests { IfOk result (λ notes. AreRests origins.now (rest_of chains.new)) }
-    ensures said { IfOk result (λ notes. AreSaid origins.now (kept_of Said said.new)) }
-    ensures voids { IfOk result (λ notes. AreTurned program.now sig.now tables.now voids.new) }
-    ensures notes { IfOk result
-        (λ notes. AreNotes program.now names.now sig.now tables.now row notes) }
+    requires program { placed.now.basis.program.now ≡ walk.old.program }
+    requires sig { placed.now.basis.sig.now ≡ walk.old.sig }
+    requires tables { placed.now.basis.tables.now ≡ walk.old.tables }
+    requires overriders { AreNear placed.now.basis.program.now row.span overriders.now }
+    ensures same { IfOk result (λ notes. walk.new ≡ walk.old) }
+    ensures notes { IfOk result (λ notes.
+        AreNotes walk.old.program walk.old.names walk.old.sig walk.old.tables row notes) }
 {
-    let topics = topics_of(alloc, program, sig, tables, overriders, sites, row)?;
-    let item = item_at(program, sig, tables, overriders, sites, row);
-    let behind = notes_behind(
-        alloc, program, names, sig, tables, origins, chains, said, voids, owners, row, item,
-    )?;
-    let behind = preceded(alloc, program, item, behind)?;
-    let notes = headed(alloc, program, names, row, &topics, behind)?;
+    let topics = topics_of(alloc, placed, overriders, row)?;
+    let item = item_at(placed, overriders, row);
+    let of = walk.program();
+    let behind = notes_behind(alloc, walk, row, item)?;
+    let behind = preceded(alloc, of.program(), item, behind)?;
+    let notes = headed(alloc, of.program(), of.names(), row, &topics, behind)?;
     Ok(notes)
 }
 
 /// The notes of each row.
 fn notes_of_each(
     alloc: Global,
-    program: &Program,
-    names: &Names,
-    sig: &Sig,
-    tables: &[FlowTable],
+    of: &SolvedProgram,
     overriders: &[Overrider],
-    origins: &LeastOrigins,
-    owners: &[Option<Owner>],
     rows: &[Row],
 ) -> Result<Vec<Notes>, OutOfMemory>
-    requires inferable { IsInferable program.now }
-    requires least { IsLeastSignature program.now sig.now }
-    requires solved { AreLeastTables program.now sig.now tables.now }
-    requires overriders { AreOverriders program.now overriders.now }
-    requires program { origins.now.program ≡ program.now }
-    requires sig { origins.now.sig ≡ sig.now }
-    requires tables { origins.now.tables ≡ tables.now }
-    requires owners { AreOwners program.now owners.now }
-    ensures { IfOk result
-        (λ notes. AreEach program.now names.now sig.now tables.now rows.now notes.items) }
+    requires overriders { AreOverriders of.now.program overriders.now }
+    ensures { IfOk result (λ notes.
+        AreEach of.now.program of.now.names of.now.sig of.now.tables rows.now notes.items) }
 {
+    let basis = of.basis();
+    let program = basis.program;
     let spans = spans_of(alloc, rows)?;
-    let places = find_near(alloc, program, overriders, &spans)?;
+    let near = find_near(alloc, program, overriders, &spans)?;
     let sites = find_sites(alloc, program, &spans)?;
-    let mut chains = Chains::new(alloc);
-    let mut said = Kept::new(alloc);
-    let mut voids = Voids::new(alloc);
+    let placed = Placed {
+        basis,
+        sites: &sites,
+    };
+    let mut walk = Walk::new(alloc, of);
     let mut list = Vec::new(alloc);
     for row in rows {
-        let notes = notes_of(
-            alloc,
-            program,
-            names,
-            sig,
-            tables,
-            overriders_at(&places, program, overriders, row.span),
-            origins,
-            &mut chains,
-            &mut said,
-            &mut voids,
-            &sites,
-            owners,
-            *row,
-        )?;
+        let there = overriders_at(&near, program, overriders, row.span);
+        let notes = notes_of(alloc, &mut walk, &placed, there, *row)?;
         put(&mut list, notes)?;
     }
     Ok(list)
@@ -591,17 +367,8 @@ fn notes_of_some(
     let overriders = overriders(alloc, program)?;
     let owners = find_owners(alloc, program.program())?;
     let origins = LeastOrigins::new(alloc, program, sig, &tables)?;
-    notes_of_each(
-        alloc,
-        program.program(),
-        names,
-        sig,
-        &tables,
-        &overriders,
-        &origins,
-        &owners,
-        rows,
-    )
+    let of = SolvedProgram::new(names, &owners, &origins);
+    notes_of_each(alloc, &of, &overriders, rows)
 }
 
 /// The notes of each row of a program under its least signature, in the rows' order. What they need is made once: the least tables of all bodies,

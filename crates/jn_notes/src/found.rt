@@ -1,11 +1,10 @@
 //! The first register that a rule reads at a place, and what takes it: by the points that are kept for the place, else by all.
 ghost use Rattle.std.specs.Prelude.{◌≡◌};
-ghost use Rattle.jn_tables_law.specs.Inferable.{IsInferable};
-ghost use Rattle.jn_sites.specs.Marks.{AreSites};
 ghost use Rattle.jn_notes.specs.Asked.{register_item};
 ghost use Rattle.jn_notes.specs.Found.{first_of, item_by, owner_by};
 ghost use Rattle.jn_notes.specs.Spoken.{taker};
 
+use crate::placed::Placed;
 use crate::reads::{Sought, by_point as item_by_point, register_item, table_of};
 use crate::takers::{by_point as owner_by_point, taker};
 use jn_env::FlowTable;
@@ -15,7 +14,6 @@ use jn_points::Program;
 use jn_reasons::Spot;
 use jn_reasons_law::Item;
 use jn_sigs::Sig;
-use jn_sites::Sites;
 
 /// The register that is read at a point where the rule finds the bit lacking.
 fn item_by(
@@ -59,20 +57,15 @@ fn first_item(
 }
 
 /// The first register that is read at the place and has the bit where the rule doesn't take it.
-pub fn register_item_at(
-    sought: Sought,
-    sites: &Sites<Spot>,
-    program: &Program,
-    sig: &Sig,
-    tables: &[FlowTable],
-) -> Option<Item>
-    requires inferable { IsInferable program.now }
-    requires sites { AreSites program.now sites.now }
-    ensures { result ≡ register_item program.now sig.now sought tables.now }
+pub(crate) fn register_item_at(sought: Sought, placed: &Placed) -> Option<Item>
+    ensures { result
+        ≡ register_item placed.now.basis.program.now placed.now.basis.sig.now sought
+        placed.now.basis.tables.now }
 {
-    match sites.get(sought.span) {
-        None => register_item(sought, program, sig, tables),
-        Some(spots) => first_item(sought, program, sig, tables, spots),
+    let basis = placed.basis;
+    match placed.sites.get(sought.span) {
+        None => register_item(sought, basis.program, basis.sig, basis.tables),
+        Some(spots) => first_item(sought, basis.program, basis.sig, basis.tables, spots),
     }
 }
 
@@ -118,19 +111,14 @@ fn first_owner(
 }
 
 /// What takes the value at the place where the rule is broken.
-pub fn taker_at(
-    sought: Sought,
-    sites: &Sites<Spot>,
-    program: &Program,
-    sig: &Sig,
-    tables: &[FlowTable],
-) -> Option<Owner>
-    requires inferable { IsInferable program.now }
-    requires sites { AreSites program.now sites.now }
-    ensures { result ≡ taker program.now sig.now sought tables.now }
+pub(crate) fn taker_at(sought: Sought, placed: &Placed) -> Option<Owner>
+    ensures { result
+        ≡ taker placed.now.basis.program.now placed.now.basis.sig.now sought
+        placed.now.basis.tables.now }
 {
-    match sites.get(sought.span) {
-        None => taker(sought, program, sig, tables),
-        Some(spots) => first_owner(sought, program, sig, tables, spots),
+    let basis = placed.basis;
+    match placed.sites.get(sought.span) {
+        None => taker(sought, basis.program, basis.sig, basis.tables),
+        Some(spots) => first_owner(sought, basis.program, basis.sig, basis.tables, spots),
     }
 }

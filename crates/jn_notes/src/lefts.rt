@@ -3,7 +3,6 @@ ghost use Rattle.std.specs.Prelude.{◌≡◌, ◌<◌, ◌++◌, OnOk, flat_map
 ghost use Rattle.jn_points.specs.Lookup.{method_in};
 ghost use Rattle.jn_points.specs.Members.{below};
 ghost use Rattle.jn_env.specs.Order.{env_in};
-ghost use Rattle.jn_tables_law.specs.Inferable.{IsInferable};
 ghost use Rattle.jn_notes.specs.Asked.{stands_at};
 ghost use Rattle.jn_notes.specs.Spoken as spec;
 
@@ -12,7 +11,8 @@ use crate::topics::Topic;
 use jn_base::lists::put;
 use jn_base::{BodyNo, Code, FieldNo, OutOfMemory, Span};
 use jn_env::bits::is_assigned_by;
-use jn_env::{Env, FieldNumbers, FlowTable, env_at, find_keys};
+use jn_env::{Env, FieldNumbers, env_at, find_keys};
+use jn_origins::Basis;
 use jn_points::lookup::method_in;
 use jn_points::{Point, PointKind, Program};
 use jn_sigs::Sig;
@@ -117,20 +117,19 @@ fn put_fields(
 fn put_all(
     topics: &mut Vec<Topic>,
     alloc: Global,
-    program: &Program,
-    sig: &Sig,
+    basis: &Basis,
     body: BodyNo,
     slots: &[Option<Env>],
 ) -> Result<(), OutOfMemory>
-    requires inside { body.0 < length program.now.bodies }
-    requires inferable { IsInferable program.now }
+    requires inside { body.0 < length basis.now.program.now.bodies }
     ensures { OnOk result (topics.new.items
-        ≡ topics.old.items ++ spec.all_left program.now sig.now body.0 slots.now) }
+        ≡ topics.old.items
+        ++ spec.all_left basis.now.program.now basis.now.sig.now body.0 slots.now) }
 {
-    let keys = find_keys(alloc, program, body)?;
-    let info = &program.bodies.as_slice()[body.0 as usize];
+    let keys = find_keys(alloc, basis.program, body)?;
+    let info = &basis.program.bodies.as_slice()[body.0 as usize];
     let points = info.points.as_slice();
-    put_fields(topics, program, sig, points, &keys.own, slots)?;
+    put_fields(topics, basis.program, basis.sig, points, &keys.own, slots)?;
     Ok(())
 }
 
@@ -147,19 +146,17 @@ fn stands_at(program: &Program, span: Span, body: BodyNo) -> bool
 fn put_in(
     topics: &mut Vec<Topic>,
     alloc: Global,
-    program: &Program,
-    sig: &Sig,
+    basis: &Basis,
     span: Span,
-    tables: &[FlowTable],
     body: BodyNo,
 ) -> Result<(), OutOfMemory>
-    requires inside { body.0 < length program.now.bodies }
-    requires inferable { IsInferable program.now }
+    requires inside { body.0 < length basis.now.program.now.bodies }
     ensures { OnOk result (topics.new.items
-        ≡ topics.old.items ++ spec.left_in program.now sig.now span tables.now body.0) }
+        ≡ topics.old.items
+        ++ spec.left_in basis.now.program.now basis.now.sig.now span basis.now.tables.now body.0) }
 {
-    if stands_at(program, span, body) {
-        put_all(topics, alloc, program, sig, body, table_of(tables, body))
+    if stands_at(basis.program, span, body) {
+        put_all(topics, alloc, basis, body, table_of(basis.tables, body))
     } else {
         Ok(())
     }
@@ -168,27 +165,17 @@ fn put_in(
 fn put_bodies(
     topics: &mut Vec<Topic>,
     alloc: Global,
-    program: &Program,
-    sig: &Sig,
+    basis: &Basis,
     span: Span,
-    tables: &[FlowTable],
 ) -> Result<(), OutOfMemory>
-    requires inferable { IsInferable program.now }
     ensures { OnOk result (topics.new.items
         ≡ topics.old.items
-        ++ flat_map (spec.left_in program.now sig.now span tables.now)
-        (below (length program.now.bodies))) }
+        ++ flat_map
+        (spec.left_in basis.now.program.now basis.now.sig.now span basis.now.tables.now)
+        (below (length basis.now.program.now.bodies))) }
 {
-    for body in 0..program.bodies.len() {
-        put_in(
-            topics,
-            alloc,
-            program,
-            sig,
-            span,
-            tables,
-            BodyNo(body as u32),
-        )?;
+    for body in 0..basis.program.bodies.len() {
+        put_in(topics, alloc, basis, span, BodyNo(body as u32))?;
     }
     Ok(())
 }
@@ -200,18 +187,16 @@ fn put_bodies(
 pub(crate) fn put_lefts(
     topics: &mut Vec<Topic>,
     alloc: Global,
-    program: &Program,
-    sig: &Sig,
-    tables: &[FlowTable],
+    basis: &Basis,
     span: Span,
     code: Code,
 ) -> Result<(), OutOfMemory>
-    requires inferable { IsInferable program.now }
     ensures { OnOk result (topics.new.items
-        ≡ topics.old.items ++ spec.left_for program.now sig.now span code tables.now) }
+        ≡ topics.old.items
+        ++ spec.left_for basis.now.program.now basis.now.sig.now span code basis.now.tables.now) }
 {
     match code {
-        Code::CtorFields => put_bodies(topics, alloc, program, sig, span, tables),
+        Code::CtorFields => put_bodies(topics, alloc, basis, span),
         _ => Ok(()),
     }
 }

@@ -11,11 +11,15 @@ pub mod found;
 pub mod law;
 pub mod lefts;
 pub mod pairs;
+pub mod placed;
 pub mod reads;
 pub mod said;
+pub mod solved;
 pub mod tables;
 pub mod takers;
 pub mod topics;
 pub mod voids;
+pub mod walk;
 
 pub use explain::notes_of_rows;
+pub use solved::SolvedProgram;

@@ -6,12 +6,13 @@ ghost use Rattle.jn_chain.specs.Keys.{IsEnd, kept_of, rest_of};
 ghost use Rattle.jn_chain.specs.Search.{AreRests, IsKnownStep, IsPath};
 ghost use Rattle.jn_notes.specs.declared.said.Said.{Said};
 ghost use Rattle.jn_notes.specs.Said.{AreSaid, IsSaid, said_of};
+ghost use Rattle.jn_notes.specs.Walked.{ground_in};
 
 use crate::explain::MOST_SHOWN;
+use crate::solved::SolvedProgram;
 use crate::voids::{ReadAt, read_with};
 use jn_base::OutOfMemory;
 use jn_chain::{Chains, Kept, Told, find_left, nothing_told, told_with, walk_to};
-use jn_origins::LeastOrigins;
 use jn_points::Program;
 use jn_reasons_law::{Item, Step};
 use std::alloc::Global;
@@ -43,22 +44,20 @@ fn said_with(
 /// What is said of the chain of an item from which a step leads to another of which it is known, or to the text.
 fn said_before(
     alloc: Global,
-    program: &Program,
-    origins: &LeastOrigins,
+    of: &SolvedProgram,
     chains: &Chains,
     said: &Kept<Said>,
     step: Step,
     next: Option<Item>,
 ) -> Result<Said, OutOfMemory>
-    requires program { origins.now.program ≡ program.now }
-    requires rests { AreRests origins.now (rest_of chains.now) }
-    requires said { AreSaid origins.now (kept_of Said said.now) }
+    requires rests { AreRests (ground_in of.now) (rest_of chains.now) }
+    requires said { AreSaid (ground_in of.now) (kept_of Said said.now) }
     requires ends { IsEnd Said (kept_of Said said.now) next }
-    requires step { IsKnownStep origins.now (rest_of chains.now) step next }
-    ensures { IfOk result (λ said. IsSaid origins.now step.item said) }
+    requires step { IsKnownStep (ground_in of.now) (rest_of chains.now) step next }
+    ensures { IfOk result (λ said. IsSaid (ground_in of.now) step.item said) }
 {
-    let _origins = origins;
     let _chains = chains;
+    let program = of.program();
     match next {
         None => {
             let nothing = Said {
@@ -81,27 +80,25 @@ fn said_before(
 /// Says of each item on the way to another of which it is known, or to the text, what there is to say, from the last one back.
 fn say_back(
     alloc: Global,
-    program: &Program,
-    origins: &LeastOrigins,
+    of: &SolvedProgram,
     chains: &Chains,
     said: &mut Kept<Said>,
     item: Item,
     steps: &[Step],
     stop: Option<Item>,
 ) -> Result<(), OutOfMemory>
-    requires program { origins.now.program ≡ program.now }
-    requires rests { AreRests origins.now (rest_of chains.now) }
-    requires said { AreSaid origins.now (kept_of Said said.old) }
+    requires rests { AreRests (ground_in of.now) (rest_of chains.now) }
+    requires said { AreSaid (ground_in of.now) (kept_of Said said.old) }
     requires ends { IsEnd Said (kept_of Said said.old) stop }
-    requires path { IsPath origins.now (rest_of chains.now) (Some item) steps.now stop }
-    ensures said { OnOk result (AreSaid origins.now (kept_of Said said.new)) }
+    requires path { IsPath (ground_in of.now) (rest_of chains.now) (Some item) steps.now stop }
+    ensures said { OnOk result (AreSaid (ground_in of.now) (kept_of Said said.new)) }
     ensures there { OnOk result (IsEnd Said (kept_of Said said.new) (Some item)) }
 {
     let _item = item;
     let mut next = stop;
     for done in 0..steps.len() {
         let step = steps[steps.len() - 1 - done];
-        let found = said_before(alloc, program, origins, chains, said, step, next)?;
+        let found = said_before(alloc, of, chains, said, step, next)?;
         said.put(step.item, found)?;
         next = Some(step.item);
     }
@@ -114,22 +111,20 @@ fn say_back(
 /// No memory was found.
 pub(crate) fn say(
     alloc: Global,
-    program: &Program,
-    origins: &LeastOrigins,
+    of: &SolvedProgram,
     chains: &mut Chains,
     said: &mut Kept<Said>,
     item: Item,
 ) -> Result<(), OutOfMemory>
-    requires program { origins.now.program ≡ program.now }
-    requires rests { AreRests origins.now (rest_of chains.old) }
-    requires said { AreSaid origins.now (kept_of Said said.old) }
-    requires chain { HasChain program.now origins.now.sig origins.now.tables item }
-    ensures rests { OnOk result (AreRests origins.now (rest_of chains.new)) }
-    ensures said { OnOk result (AreSaid origins.now (kept_of Said said.new)) }
+    requires rests { AreRests (ground_in of.now) (rest_of chains.old) }
+    requires said { AreSaid (ground_in of.now) (kept_of Said said.old) }
+    requires chain { HasChain of.now.program of.now.sig of.now.tables item }
+    ensures rests { OnOk result (AreRests (ground_in of.now) (rest_of chains.new)) }
+    ensures said { OnOk result (AreSaid (ground_in of.now) (kept_of Said said.new)) }
     ensures there { OnOk result (IsEnd Said (kept_of Said said.new) (Some item)) }
 {
-    let count = find_left(alloc, origins, chains, item)?;
-    let (steps, stop) = walk_to(alloc, origins, chains, said, item, count)?;
-    say_back(alloc, program, origins, chains, said, item, &steps, stop)?;
+    let count = find_left(alloc, of, chains, item)?;
+    let (steps, stop) = walk_to(alloc, of, chains, said, item, count)?;
+    say_back(alloc, of, chains, said, item, &steps, stop)?;
     Ok(())
 }

@@ -1,7 +1,5 @@
 //! The declarations that a row speaks of, and their words.
 ghost use Rattle.std.specs.Prelude.{◌≡◌, ◌++◌, IfOk, OnOk, map};
-ghost use Rattle.jn_tables_law.specs.Inferable.{IsInferable};
-ghost use Rattle.jn_sites.specs.Marks.{AreSites};
 ghost use Rattle.jn_sites.specs.Near.{AreNear};
 ghost use Rattle.jn_notes.specs.Spoken as spec;
 
@@ -9,19 +7,17 @@ use crate::changes::overridden_of;
 use crate::found::taker_at;
 use crate::lefts::put_lefts;
 use crate::pairs::{Part, part_of};
+use crate::placed::Placed;
 use crate::reads::{Sought, same_span, sought_of};
 use jn_base::lists::put;
 use jn_base::{OutOfMemory, Row, Seq, Span};
 use jn_contrib::Overrider;
-use jn_env::FlowTable;
 use jn_note_words::note::Note;
 use jn_note_words::owners::Owner;
 use jn_note_words::spans::owner_span;
 use jn_note_words::words::{add, field_name, owner_words};
 use jn_points::Program;
-use jn_reasons::Spot;
 use jn_sigs::Sig;
-use jn_sites::Sites;
 use jn_trees::Names;
 use std::alloc::{AllocError, Global};
 
@@ -48,20 +44,17 @@ fn put_taker(topics: &mut Vec<Topic>, owner: Option<Owner>) -> Result<(), AllocE
 /// What takes the value of a row.
 fn put_takes(
     topics: &mut Vec<Topic>,
-    program: &Program,
-    sig: &Sig,
-    tables: &[FlowTable],
-    sites: &Sites<Spot>,
+    placed: &Placed,
     sought: Option<Sought>,
 ) -> Result<(), AllocError>
-    requires inferable { IsInferable program.now }
-    requires sites { AreSites program.now sites.now }
     ensures { OnOk result (topics.new.items
-        ≡ topics.old.items ++ spec.takes_of program.now sig.now sought tables.now) }
+        ≡ topics.old.items
+        ++ spec.takes_of placed.now.basis.program.now placed.now.basis.sig.now sought
+        placed.now.basis.tables.now) }
 {
     match sought {
         None => Ok(()),
-        Some(sought) => put_taker(topics, taker_at(sought, sites, program, sig, tables)),
+        Some(sought) => put_taker(topics, taker_at(sought, placed)),
     }
 }
 
@@ -99,30 +92,27 @@ fn put_overridden(
 /// No memory was found.
 pub(crate) fn topics_of(
     alloc: Global,
-    program: &Program,
-    sig: &Sig,
-    tables: &[FlowTable],
+    placed: &Placed,
     overriders: &[Overrider],
-    sites: &Sites<Spot>,
     row: Row,
 ) -> Result<Vec<Topic>, OutOfMemory>
-    requires inferable { IsInferable program.now }
-    requires overriders { AreNear program.now row.span overriders.now }
-    requires sites { AreSites program.now sites.now }
-    ensures { IfOk result
-        (λ topics. topics.items ≡ spec.topics_of program.now sig.now row tables.now) }
+    requires overriders { AreNear placed.now.basis.program.now row.span overriders.now }
+    ensures { IfOk result (λ topics. topics.items
+        ≡ spec.topics_of placed.now.basis.program.now placed.now.basis.sig.now row
+        placed.now.basis.tables.now) }
 {
+    let basis = placed.basis;
     let mut topics = Vec::new(alloc);
-    put_takes(&mut topics, program, sig, tables, sites, sought_of(row))?;
+    put_takes(&mut topics, placed, sought_of(row))?;
     put_overridden(
         &mut topics,
-        program,
-        sig,
+        basis.program,
+        basis.sig,
         overriders,
         row.span,
         part_of(row.code),
     )?;
-    put_lefts(&mut topics, alloc, program, sig, tables, row.span, row.code)?;
+    put_lefts(&mut topics, alloc, &basis, row.span, row.code)?;
     Ok(topics)
 }
 

@@ -1,9 +1,6 @@
 //! The notes of a test or an assignment that something made void.
 ghost use Rattle.std.specs.Prelude.{◌≡◌, ◌<◌, [], length, IfOk, None, Some, cond, slice_index_or};
 ghost use Rattle.jn_points.specs.Lookup.{field_info, method_in, point_at, static_of};
-ghost use Rattle.jn_origins.specs.Standing.{AreSized};
-ghost use Rattle.jn_tables_law.specs.Inferable.{IsInferable};
-ghost use Rattle.jn_voided.specs.Kept.{AreTurned};
 ghost use Rattle.jn_voided.specs.Voided.{IsFound};
 ghost use Rattle.jn_notes.specs.declared.voids.ReadAt.{ReadAt};
 ghost use Rattle.jn_notes.specs.Voids as spec;
@@ -11,14 +8,13 @@ ghost use Rattle.jn_note_words.specs.Worded.{point_span};
 
 use jn_base::lists::put;
 use jn_base::{BodyNo, FieldNo, OutOfMemory, PointNo, RegNo, Seq};
-use jn_env::{FieldKey, FlowTable};
+use jn_env::FieldKey;
 use jn_note_words::note::Note;
 use jn_note_words::spans::{point_at, point_span};
 use jn_note_words::words::{add, field_name};
 use jn_points::lookup::method_in;
 use jn_points::{PointKind, Program};
 use jn_reasons_law::{Bit, Item, Place, Step};
-use jn_sigs::Sig;
 use jn_trees::Names;
 use jn_voided::{Voided, Voids, next_voided};
 use std::alloc::{AllocError, Global};
@@ -261,47 +257,35 @@ fn void_notes(
 /// The first pair of a test of the field, or an assignment to it, and what made it void before the read.
 fn find_voided(
     alloc: Global,
-    program: &Program,
-    sig: &Sig,
-    tables: &[FlowTable],
     voids: &mut Voids,
     read: ReadAt,
 ) -> Result<Option<Voided>, OutOfMemory>
-    requires inside { read.body < length program.now.bodies }
-    requires inferable { IsInferable program.now }
-    requires sized { AreSized program.now tables.now }
-    requires voids { AreTurned program.now sig.now tables.now voids.old }
-    ensures voids { IfOk result (λ found. AreTurned program.now sig.now tables.now voids.new) }
-    ensures found { IfOk result (λ found. IsFound program.now sig.now read.body
-        (slice_index_or tables.now read.body []) (spec.key_of read) read.point found) }
+    requires { read.body < length voids.old.program.bodies }
+    ensures same { voids.new ≡ voids.old }
+    ensures found { IfOk result (λ found. IsFound voids.old.program voids.old.sig read.body
+        (slice_index_or voids.old.tables read.body []) (spec.key_of read) read.point found) }
 {
     let body = BodyNo(read.body);
     let key = FieldKey::new(RegNo(read.object), FieldNo(read.field));
-    let point = PointNo(read.point);
-    let found = next_voided(alloc, program, sig, tables, voids, body, key, point)?;
+    let found = next_voided(alloc, voids, body, key, PointNo(read.point))?;
     Ok(found)
 }
 
 /// The notes of a read.
 fn voids_of(
     alloc: Global,
-    program: &Program,
     names: &Names,
-    sig: &Sig,
-    tables: &[FlowTable],
     voids: &mut Voids,
     read: ReadAt,
 ) -> Result<Vec<Note>, OutOfMemory>
-    requires inside { read.body < length program.now.bodies }
-    requires inferable { IsInferable program.now }
-    requires sized { AreSized program.now tables.now }
-    requires voids { AreTurned program.now sig.now tables.now voids.old }
-    ensures voids { IfOk result (λ notes. AreTurned program.now sig.now tables.now voids.new) }
+    requires { read.body < length voids.old.program.bodies }
+    ensures same { voids.new ≡ voids.old }
     ensures notes { IfOk result (λ notes.
-        spec.AreVoids program.now names.now sig.now tables.now (Some read) notes.items) }
+        spec.AreVoids voids.old.program names.now voids.old.sig voids.old.tables (Some read)
+        notes.items) }
 {
-    let found = find_voided(alloc, program, sig, tables, voids, read)?;
-    let notes = void_notes(alloc, program, names, read, found)?;
+    let found = find_voided(alloc, voids, read)?;
+    let notes = void_notes(alloc, voids.program(), names, read, found)?;
     Ok(notes)
 }
 
@@ -310,25 +294,19 @@ fn voids_of(
 ///
 /// # Errors
 /// No memory was found.
-pub fn find_voids(
+pub(crate) fn find_voids(
     alloc: Global,
-    program: &Program,
     names: &Names,
-    sig: &Sig,
-    tables: &[FlowTable],
     voids: &mut Voids,
     read: Option<ReadAt>,
 ) -> Result<Vec<Note>, OutOfMemory>
-    requires inferable { IsInferable program.now }
-    requires sized { AreSized program.now tables.now }
-    requires inside { (x : ReadAt) → read ≡ Some x → x.body < length program.now.bodies }
-    requires voids { AreTurned program.now sig.now tables.now voids.old }
-    ensures voids { IfOk result (λ notes. AreTurned program.now sig.now tables.now voids.new) }
+    requires { (x : ReadAt) → read ≡ Some x → x.body < length voids.old.program.bodies }
+    ensures same { voids.new ≡ voids.old }
     ensures notes { IfOk result (λ notes.
-        spec.AreVoids program.now names.now sig.now tables.now read notes.items) }
+        spec.AreVoids voids.old.program names.now voids.old.sig voids.old.tables read notes.items) }
 {
     match read {
         None => Ok(Vec::new(alloc)),
-        Some(read) => voids_of(alloc, program, names, sig, tables, voids, read),
+        Some(read) => voids_of(alloc, names, voids, read),
     }
 }

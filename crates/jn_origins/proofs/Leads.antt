@@ -254,9 +254,3 @@ pub jumps_for : (P Q : Program) (b d : ℕ) (body : KnownBody) (jumps : List (Li
 jumps_for P Q b d body jumps h eq ed ej =
     let points : points_of (body_at P b) ≡ points_of (body_at Q d) = ap (λ (n : ℕ). points_of (body_at P n)) (sym ed) ∙ ap (λ (x : Program). points_of (body_at x d)) (sym eq) in
     subst (AreJumps (points_of (body_at Q d))) (sym ej) (subst (λ (l : List Point). AreJumps l body.jumps) points h.jumps)
-
-pub causes_for : (P Q : Program) (s u : List Qualifier) (tables : List Table) (b d : ℕ) (T : Table) (p r : ℕ) (bit : Bit) (list : List Cause) → Q ≡ P → u ≡ s → d ≡ b → T ≡ slice_index_or tables b [] → AreSame list (register_causes Q u d T p r bit) → AreSame list (causes P s tables (AtRegister b p r bit))
-causes_for P Q s u tables b d T p r bit list eq es ed et h =
-    let same : register_causes Q u d T p r bit ≡ register_causes P s b (slice_index_or tables b []) p r bit =
-    ap (λ (x : Program). register_causes x u d T p r bit) eq ∙ ap (λ (x : List Qualifier). register_causes P x d T p r bit) es ∙ ap (λ (n : ℕ). register_causes P s n T p r bit) ed ∙ ap (λ (t : Table). register_causes P s b t p r bit) et in
-    subst (AreSame list) same h

@@ -4,3 +4,4 @@ pub mod Beyond
 mod Skipping
 pub mod Leads
 mod Sending
+pub mod OfBody

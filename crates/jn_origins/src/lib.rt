@@ -5,6 +5,7 @@
 #![tactic(auto)]
 
 pub mod adding;
+pub mod basis;
 pub mod bodies;
 pub mod law;
 pub mod origins;
@@ -12,5 +13,7 @@ pub mod registers;
 pub mod senders;
 pub mod slots;
 pub mod standing;
+pub mod tabled;
 
+pub use basis::Basis;
 pub use origins::LeastOrigins;

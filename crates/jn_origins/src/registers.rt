@@ -1,31 +1,26 @@
 //! The causes of a register's bit before a point.
 ghost use Rattle.std.specs.Prelude.{◌≡◌, ◌<◌, ◌+◌, ◌^◌, ◌++◌, ◌&&◌, IfOk, OnOk, Some, eqb, length};
-ghost use Rattle.jn_points.specs.Lookup.{body_at, points_of, method_in};
+ghost use Rattle.jn_points.specs.Lookup.{method_in};
 ghost use Rattle.jn_env.specs.Order.{env_in, qual_at};
-ghost use Rattle.jn_env.specs.Sized.{EnvSized, Sized};
+ghost use Rattle.jn_env.specs.Sized.{EnvSized};
 ghost use Rattle.jn_reasons_law.specs.declared.item.Item.TheVariants.{AtRegister};
 ghost use Rattle.jn_reasons_law.specs.declared.item.Place.TheVariants.{OfBody, OfPoint};
 ghost use Rattle.jn_reasons_law.specs.Items.{on};
 ghost use Rattle.jn_reasons_law.specs.Sources.{at_entry, behind};
 ghost use Rattle.jn_reasons.specs.Listed.{placed, over_edge, over_edges, over_point, entered, carried, causes};
 ghost use Rattle.jn_reasons.specs.Listed as spec;
-ghost use Rattle.jn_origins.specs.Leading.{AreJumps, AreKnown, leads, previous};
-ghost use Rattle.jn_origins.specs.Standing.{AreSized};
+ghost use Rattle.jn_origins.specs.Leading.{leads, previous};
 ghost use Rattle.jn_origins.specs.Targets.{AreSame, over};
-ghost use Rattle.jn_tables_law.specs.Inferable.{IsInferable};
-ghost use Rattle.jn_transfer.specs.Sized.{StaysInside};
 
 use crate::adding::{add_placed, is_on};
-use crate::bodies::{KnownBody, jumps_to, known_of};
-use crate::slots::table_of;
-use jn_base::{BodyNo, OutOfMemory, PointNo, RegNo, Seq};
-use jn_env::{Env, FlowTable, env_at};
+use crate::origins::LeastOrigins;
+use crate::tabled::Tabled;
+use jn_base::{BodyNo, OutOfMemory, PointNo, RegNo};
+use jn_env::Env;
 use jn_points::{Point, PointKind, Program};
 use jn_reasons::{Asked, Cause, Spot, add_behind, add_entry};
 use jn_reasons_law::{Bit, Place};
-use jn_sigs::Sig;
-use jn_transfer::entry::entry;
-use jn_transfer::{Analysis, Edge};
+use jn_transfer::Edge;
 use std::alloc::{AllocError, Global};
 
 /// What is asked: where the bit of a register before the point comes from.
@@ -140,33 +135,31 @@ fn leads(kind: &PointKind, from: PointNo, to: PointNo) -> bool
 /// Over a point, where it leads there and is reached.
 fn add_point(
     alloc: Global,
-    analysis: &Analysis,
+    of: &Tabled,
     list: &mut Vec<Cause>,
     point: &Point,
     at: PointNo,
-    slots: &[Option<Env>],
     wanted: Wanted,
 ) -> Result<(), OutOfMemory>
     requires small { at.0 + 1 < 2 ^ 32 }
-    requires sized { Sized analysis.now.program analysis.now.body slots.now }
     ensures { OnOk result (list.new.items
         ≡ list.old.items
-        ++ over_point analysis.now.program analysis.now.sig analysis.now.body wanted.point.0
-        wanted.reg.0 wanted.bit at.0 (Some point.now) (env_in slots.now at.0)) }
+        ++ over_point of.now.program of.now.sig of.now.body wanted.point.0 wanted.reg.0 wanted.bit
+        at.0 (Some point.now) (env_in of.now.table at.0)) }
 {
     if !leads(&point.kind, at, wanted.point) {
         return Ok(());
     }
-    match env_at(slots, at.0 as usize) {
+    match of.env(at) {
         None => Ok(()),
-        Some(env) => add_reached(alloc, analysis, list, point, at, env, wanted),
+        Some(env) => add_reached(alloc, of, list, point, at, env, wanted),
     }
 }
 
 /// Over a reached point.
 fn add_reached(
     alloc: Global,
-    analysis: &Analysis,
+    of: &Tabled,
     list: &mut Vec<Cause>,
     point: &Point,
     at: PointNo,
@@ -174,18 +167,18 @@ fn add_reached(
     wanted: Wanted,
 ) -> Result<(), OutOfMemory>
     requires small { at.0 + 1 < 2 ^ 32 }
-    requires sized { EnvSized analysis.now.program analysis.now.body env.now }
+    requires sized { EnvSized of.now.program of.now.body env.now }
     ensures { OnOk result (list.new.items
         ≡ list.old.items
-        ++ over_point analysis.now.program analysis.now.sig analysis.now.body wanted.point.0
-        wanted.reg.0 wanted.bit at.0 (Some point.now) (Some env.now)) }
+        ++ over_point of.now.program of.now.sig of.now.body wanted.point.0 wanted.reg.0 wanted.bit
+        at.0 (Some point.now) (Some env.now)) }
 {
-    let edges = analysis.edges_after(alloc, &point.kind, at.0, env)?;
+    let edges = of.edges(alloc, &point.kind, at, env)?;
     let spot = Spot {
-        body: analysis.body(),
+        body: of.body(),
         point: at,
     };
-    let program = analysis.program();
+    let program = of.program();
     add_edges(alloc, program, list, &point.kind, env, spot, &edges, wanted)?;
     Ok(())
 }
@@ -194,32 +187,20 @@ fn add_reached(
 #[tactic(auto, using(crate::proofs::Leads::carried_at, crate::proofs::Leads::carried_past))]
 fn add_at(
     alloc: Global,
-    analysis: &Analysis,
+    of: &Tabled,
     list: &mut Vec<Cause>,
-    points: &[Point],
-    slots: &[Option<Env>],
     at: u32,
     wanted: Wanted,
 ) -> Result<(), OutOfMemory>
-    requires points { points.now ≡ points_of (body_at analysis.now.program analysis.now.body) }
-    requires short { length points.now < 2 ^ 32 }
-    requires sized { Sized analysis.now.program analysis.now.body slots.now }
     ensures { OnOk result (list.new.items
         ≡ list.old.items
-        ++ carried analysis.now.program analysis.now.sig analysis.now.body slots.now
-        wanted.point.0 wanted.reg.0 wanted.bit at) }
+        ++ carried of.now.program of.now.sig of.now.body of.now.table wanted.point.0 wanted.reg.0
+        wanted.bit at) }
 {
+    let points = of.points();
     let place = at as usize;
     if place < points.len() {
-        add_point(
-            alloc,
-            analysis,
-            list,
-            &points[place],
-            PointNo(at),
-            slots,
-            wanted,
-        )
+        add_point(alloc, of, list, &points[place], PointNo(at), wanted)
     } else {
         Ok(())
     }
@@ -229,47 +210,37 @@ fn add_at(
 #[tactic(auto, using(crate::proofs::Leads::previous_none, crate::proofs::Leads::previous_some))]
 fn add_previous(
     alloc: Global,
-    analysis: &Analysis,
+    of: &Tabled,
     list: &mut Vec<Cause>,
-    points: &[Point],
-    slots: &[Option<Env>],
     wanted: Wanted,
 ) -> Result<(), OutOfMemory>
-    requires points { points.now ≡ points_of (body_at analysis.now.program analysis.now.body) }
-    requires short { length points.now < 2 ^ 32 }
-    requires sized { Sized analysis.now.program analysis.now.body slots.now }
     ensures { OnOk result (list.new.items
         ≡ list.old.items
-        ++ previous (carried analysis.now.program analysis.now.sig analysis.now.body slots.now
-        wanted.point.0 wanted.reg.0 wanted.bit) wanted.point.0) }
+        ++ previous (carried of.now.program of.now.sig of.now.body of.now.table wanted.point.0
+        wanted.reg.0 wanted.bit) wanted.point.0) }
 {
     if wanted.point.0 == 0 {
         return Ok(());
     }
     let at = wanted.point.0 - 1;
-    add_at(alloc, analysis, list, points, slots, at, wanted)
+    add_at(alloc, of, list, at, wanted)
 }
 
 /// Over these points.
 fn add_jumps(
     alloc: Global,
-    analysis: &Analysis,
+    of: &Tabled,
     list: &mut Vec<Cause>,
-    points: &[Point],
-    slots: &[Option<Env>],
     jumps: &[u32],
     wanted: Wanted,
 ) -> Result<(), OutOfMemory>
-    requires points { points.now ≡ points_of (body_at analysis.now.program analysis.now.body) }
-    requires short { length points.now < 2 ^ 32 }
-    requires sized { Sized analysis.now.program analysis.now.body slots.now }
     ensures { OnOk result (list.new.items
         ≡ list.old.items
-        ++ over (carried analysis.now.program analysis.now.sig analysis.now.body slots.now
-        wanted.point.0 wanted.reg.0 wanted.bit) jumps.now) }
+        ++ over (carried of.now.program of.now.sig of.now.body of.now.table wanted.point.0
+        wanted.reg.0 wanted.bit) jumps.now) }
 {
     for from in jumps {
-        add_at(alloc, analysis, list, points, slots, *from, wanted)?;
+        add_at(alloc, of, list, *from, wanted)?;
     }
     Ok(())
 }
@@ -294,19 +265,17 @@ fn add_entry_sources(
 /// At the entry, where the register has the bit there.
 fn add_first(
     alloc: Global,
-    analysis: &Analysis,
+    of: &Tabled,
     list: &mut Vec<Cause>,
     wanted: Wanted,
 ) -> Result<(), OutOfMemory>
-    requires inside { analysis.now.body < length analysis.now.program.bodies }
     ensures { OnOk result (list.new.items
         ≡ list.old.items
-        ++ entered analysis.now.program analysis.now.sig analysis.now.body 0 wanted.reg.0
-        wanted.bit) }
+        ++ entered of.now.program of.now.sig of.now.body 0 wanted.reg.0 wanted.bit) }
 {
-    let env = entry(alloc, analysis)?;
+    let env = of.entry(alloc)?;
     if is_on(env.qual(wanted.reg), wanted.bit) {
-        add_entry_sources(alloc, analysis.program(), list, analysis.body(), wanted)?;
+        add_entry_sources(alloc, of.program(), list, of.body(), wanted)?;
     }
     Ok(())
 }
@@ -314,76 +283,51 @@ fn add_first(
 /// At the entry, where the point is the first.
 fn add_entered(
     alloc: Global,
-    analysis: &Analysis,
+    of: &Tabled,
     list: &mut Vec<Cause>,
     wanted: Wanted,
 ) -> Result<(), OutOfMemory>
-    requires inside { analysis.now.body < length analysis.now.program.bodies }
     ensures { OnOk result (list.new.items
         ≡ list.old.items
-        ++ entered analysis.now.program analysis.now.sig analysis.now.body wanted.point.0
-        wanted.reg.0 wanted.bit) }
+        ++ entered of.now.program of.now.sig of.now.body wanted.point.0 wanted.reg.0 wanted.bit) }
 {
     if wanted.point.0 == 0 {
-        add_first(alloc, analysis, list, wanted)
+        add_first(alloc, of, list, wanted)
     } else {
         Ok(())
     }
 }
 
-/// Of an analysis, whose points, table and jumps are at hand.
-fn analysed(
-    alloc: Global,
-    analysis: &Analysis,
-    points: &[Point],
-    slots: &[Option<Env>],
-    jumps: &[Seq<u32>],
-    wanted: Wanted,
-) -> Result<Vec<Cause>, OutOfMemory>
-    requires inside { analysis.now.body < length analysis.now.program.bodies }
-    requires stays { StaysInside analysis.now.program analysis.now.body }
-    requires points { points.now ≡ points_of (body_at analysis.now.program analysis.now.body) }
-    requires short { length points.now < 2 ^ 32 }
-    requires sized { Sized analysis.now.program analysis.now.body slots.now }
-    requires jumps { AreJumps (points_of (body_at analysis.now.program analysis.now.body)) jumps.now }
+/// Of a body with its table.
+fn causes_by(alloc: Global, of: &Tabled, wanted: Wanted) -> Result<Vec<Cause>, OutOfMemory>
     ensures { IfOk result (λ list. AreSame list.items
-        (spec.register_causes analysis.now.program analysis.now.sig analysis.now.body slots.now
-        wanted.point.0 wanted.reg.0 wanted.bit)) }
+        (spec.register_causes of.now.program of.now.sig of.now.body of.now.table wanted.point.0
+        wanted.reg.0 wanted.bit)) }
 {
+    of.facts();
     let mut list = Vec::new(alloc);
-    add_entered(alloc, analysis, &mut list, wanted)?;
-    add_previous(alloc, analysis, &mut list, points, slots, wanted)?;
-    let there = jumps_to(jumps, wanted.point);
-    add_jumps(alloc, analysis, &mut list, points, slots, there, wanted)?;
+    add_entered(alloc, of, &mut list, wanted)?;
+    add_previous(alloc, of, &mut list, wanted)?;
+    let there = of.jumps_to(wanted.point);
+    add_jumps(alloc, of, &mut list, there, wanted)?;
     Ok(list)
 }
 
 /// Of a body that is there.
-#[tactic(auto, using(crate::proofs::Steps::sized_for, crate::proofs::Leads::stays_for, crate::proofs::Leads::jumps_for, crate::proofs::Leads::causes_for))]
+#[tactic(auto, using(crate::proofs::OfBody::causes_for))]
 fn causes_of_body(
     alloc: Global,
-    program: &Program,
-    sig: &Sig,
-    tables: &[FlowTable],
-    bodies: &[KnownBody],
+    origins: &LeastOrigins,
     body: BodyNo,
     wanted: Wanted,
 ) -> Result<Vec<Cause>, OutOfMemory>
-    requires inside { body.0 < length program.now.bodies }
-    requires inferable { IsInferable program.now }
-    requires known { AreKnown program.now bodies.now }
-    requires sized { AreSized program.now tables.now }
+    requires inside { body.0 < length origins.now.program.bodies }
     ensures { IfOk result (λ list. AreSame list.items
-        (causes program.now sig.now tables.now
+        (causes origins.now.program origins.now.sig origins.now.tables
         (AtRegister body.0 wanted.point.0 wanted.reg.0 wanted.bit))) }
 {
-    let known = known_of(program, bodies, body);
-    let analysis = Analysis::new(program, sig, body, &known.keys);
-    let info = &program.bodies.as_slice()[body.0 as usize];
-    let points = info.points.as_slice();
-    let table = table_of(tables, body);
-    let jumps = known.jumps.as_slice();
-    let list = analysed(alloc, &analysis, points, table, jumps, wanted)?;
+    let of = origins.of_body(body);
+    let list = causes_by(alloc, &of, wanted)?;
     Ok(list)
 }
 
@@ -391,22 +335,16 @@ fn causes_of_body(
 #[tactic(auto, using(crate::proofs::Leads::no_body_same))]
 pub(crate) fn register_causes(
     alloc: Global,
-    program: &Program,
-    sig: &Sig,
-    tables: &[FlowTable],
-    bodies: &[KnownBody],
+    origins: &LeastOrigins,
     body: BodyNo,
     wanted: Wanted,
 ) -> Result<Vec<Cause>, OutOfMemory>
-    requires inferable { IsInferable program.now }
-    requires known { AreKnown program.now bodies.now }
-    requires sized { AreSized program.now tables.now }
     ensures { IfOk result (λ list. AreSame list.items
-        (causes program.now sig.now tables.now
+        (causes origins.now.program origins.now.sig origins.now.tables
         (AtRegister body.0 wanted.point.0 wanted.reg.0 wanted.bit))) }
 {
-    if (body.0 as usize) < program.bodies.len() {
-        causes_of_body(alloc, program, sig, tables, bodies, body, wanted)
+    if (body.0 as usize) < origins.program().bodies.len() {
+        causes_of_body(alloc, origins, body, wanted)
     } else {
         Ok(Vec::new(alloc))
     }

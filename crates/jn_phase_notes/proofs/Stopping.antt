@@ -9,8 +9,6 @@ use Rattle.jn_follow.specs.declared.noting.StopNote.{StopNote}
 use Rattle.jn_follow.specs.StopNotes.{NoteBeside}
 use Rattle.jn_front.specs.declared.source.SourceFile.{SourceFile}
 use Rattle.jn_front.specs.declared.source.SourceRead.{SourceRead}
-use Rattle.jn_front.specs.Counted.{ReadsFit}
-use Rattle.jn_front.proofs.Loops.{fits_at}
 use Rattle.jn_front.specs.Files.{files_of_reads}
 use Rattle.jn_note_words.specs.declared.note.Notes.{Notes}
 use Rattle.jn_notes.specs.Noted.{no_notes}
@@ -33,9 +31,6 @@ some_in : (reads : List SourceRead) (i : ℕ) (d : SourceRead) → i < length re
 some_in [] i d lt = absurd (omega (arith, lt))
 some_in (read ∷ reads) zero d lt = refl
 some_in (read ∷ reads) (suc i) d lt = some_in reads i d (omega (arith, lt))
-
-pub one_read_fits : (reads : List SourceRead) (i : ℕ) (read : SourceRead) → ReadsFit reads → i < length reads → read ≡ get_or reads i read → length read.file.bytes ≤ 1048576
-one_read_fits reads i read fit lt is = subst (λ (r : SourceRead). length r.file.bytes ≤ 1048576) (sym is) (fits_at reads i read fit lt)
 
 module _ {E : Type 0} (reads : List SourceRead) (span : Span) where
   -- of a place in a file that was read

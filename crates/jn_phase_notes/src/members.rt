@@ -21,9 +21,9 @@ use std::alloc::{AllocError, Global};
 fn is_subclass(program: &IndexedProgram, c: ClassNo, d: ClassNo) -> bool
     ensures { result ≡ members.sub program.now c.0 d.0 }
 {
-    match program.index() {
+    match program.indexed() {
         None => jn_points::is_subclass(program.program(), c, d),
-        Some(index) => lookup::is_subclass(program.program(), index, c, d),
+        Some(indexed) => lookup::is_subclass(&indexed, c, d),
     }
 }
 
@@ -38,9 +38,9 @@ fn method_of(
         (λ m. members.method_of program.now class.0 name.0 arity ≡ Some m.0) }
 {
     program.facts();
-    match program.index() {
+    match program.indexed() {
         None => jn_points::method_of(program.program(), class, name, arity as u32),
-        Some(index) => lookup::method_of(program.program(), index, class, name, arity),
+        Some(indexed) => lookup::method_of(&indexed, class, name, arity),
     }
 }
 
@@ -55,10 +55,10 @@ fn users_of(
     ensures { IfOk result
         (λ o. IfSome o (λ users. AreUsers program.now m over.now users.items)) }
 {
-    match program.index() {
+    match program.indexed() {
         None => Ok(None),
-        Some(index) => {
-            let found = users(alloc, program.program(), index, m, over)?;
+        Some(indexed) => {
+            let found = users(alloc, &indexed, m, over)?;
             Ok(Some(found))
         }
     }
@@ -79,10 +79,10 @@ fn is_pair(
     ensures { result ≡ members.is_pair program.now m k }
 {
     program.facts();
-    let (Some(index), Some(users)) = (program.index(), users) else {
+    let (Some(indexed), Some(users)) = (program.indexed(), users) else {
         return jn_points::is_pair(program.program(), MethodNo(m), MethodNo(k));
     };
-    is_pair_of(program.program(), index, users, m, over, k, under)
+    is_pair_of(&indexed, users, m, over, k, under)
 }
 
 fn agrees(program: &IndexedProgram, over: &Method, under: &Method) -> bool

@@ -1,6 +1,5 @@
 //! The notes of rows of a phase before the rules.
 ghost use Rattle.std.specs.Prelude.{IfOk, map};
-ghost use Rattle.jn_front.specs.Counted.{ReadsFit};
 ghost use Rattle.jn_front.specs.Files.{files_of_reads};
 ghost use Rattle.jn_phase_notes.specs.Phases.{AreNotesBy};
 ghost use Rattle.jn_places.specs.PlacedView.{placed_file};
@@ -27,7 +26,6 @@ pub fn notes_of_phase<R: Threads + Sync>(
     trees: &[FileTree],
     rows: &[Row],
 ) -> Result<Vec<Notes>, OutOfMemory>
-    requires { ReadsFit reads.now }
     ensures { IfOk result
         (λ notes. AreNotesBy (files_of_reads reads.now) names.now (map placed_file trees.now) rows.now
         notes.items) }

@@ -1,6 +1,5 @@
 //! The notes of rows of files that have no trees: beside each syntax row, where its file stops being of the subset.
-ghost use Rattle.std.specs.Prelude.{◌≡◌, ◌≤◌, length, IfOk, Some, slice_get};
-ghost use Rattle.jn_front.specs.Counted.{ReadsFit};
+ghost use Rattle.std.specs.Prelude.{◌≡◌, IfOk, Some, slice_get};
 ghost use Rattle.jn_front.specs.Files.{files_of_reads};
 ghost use Rattle.jn_phase_notes.specs.Stops as spec;
 
@@ -58,7 +57,6 @@ fn stop_notes(alloc: Global, note: Option<StopNote>) -> Result<Notes, OutOfMemor
 
 /// Of a place in a file that was read, the note of where its text stops being of the subset.
 fn notes_in(alloc: Global, read: &SourceRead, span: Span) -> Result<Notes, OutOfMemory>
-    requires { length read.now.file.bytes ≤ 1048576 }
     ensures { IfOk result (λ notes. spec.AreStopsIn (Some read.now.file) span notes) }
 {
     let note = note_beside(alloc, span.file, read.file.bytes.as_slice(), &span)?;
@@ -67,7 +65,6 @@ fn notes_in(alloc: Global, read: &SourceRead, span: Span) -> Result<Notes, OutOf
 
 /// The same of a place in one of the files; there is none where no file has this number.
 fn notes_at(alloc: Global, reads: &[SourceRead], span: Span) -> Result<Notes, OutOfMemory>
-    requires { ReadsFit reads.now }
     ensures { IfOk result
         (λ notes. spec.AreStopsIn (slice_get (files_of_reads reads.now) span.file.0) span notes) }
 {
@@ -81,7 +78,6 @@ fn notes_at(alloc: Global, reads: &[SourceRead], span: Span) -> Result<Notes, Ou
 
 /// The notes of a row.
 fn notes_of_row(alloc: Global, reads: &[SourceRead], row: Row) -> Result<Notes, OutOfMemory>
-    requires { ReadsFit reads.now }
     ensures { IfOk result (λ notes. spec.AreStopsBy (spec.is_syntax row.code)
         (slice_get (files_of_reads reads.now) row.span.file.0) row.span notes) }
 {
@@ -101,7 +97,6 @@ pub fn notes_of_texts(
     reads: &[SourceRead],
     rows: &[Row],
 ) -> Result<Vec<Notes>, OutOfMemory>
-    requires { ReadsFit reads.now }
     ensures { IfOk result
         (λ notes. spec.AreStops (files_of_reads reads.now) rows.now notes.items) }
 {

@@ -1,24 +1,12 @@
--- How much was read.
-use Rattle.std.proofs.Common.{◌≡◌, suc, ◌<◌, ◌≤◌, List, [], ◌∷◌, length, map, inl, inr, refl, ap, arith}
+-- How many files were read.
+use Rattle.std.proofs.Common.{◌≡◌, suc, ◌<◌, ◌≤◌, List, [], ◌∷◌, length, map, refl, ap, arith}
 use Rattle.std.specs.Prelude.{string_bytes}
 use Rattle.std.specs.declared.string.String.{String}
 use Rattle.std.specs.declared.alloc.Global.{Global}
 use Rattle.std.proofs.lemmas.List.{length-map}
 use Rattle.jn_front.specs.declared.source.SourceFile.{SourceFile}
 use Rattle.jn_front.specs.declared.source.SourceRead.{SourceRead}
-use Rattle.jn_front.specs.Files.{AreReads, IsReadOf, names_of, most_files}
-use Rattle.jn_front.specs.Counted.{ReadsFit}
-
--- no bytes beyond the limit are kept
-one_fits : (read : SourceRead) (file : SourceFile) → IsReadOf read file → length read.file.bytes ≤ 1048576
-one_fits read file (inl w) = let same = ap (λ (f : SourceFile). length f.bytes) w.1 in omega (arith, same, w.2)
-one_fits read file (inr l) = let same = ap (λ (f : SourceFile). length f.bytes) l.1 in omega (arith, same)
-
-pub reads_fit : (reads : List SourceRead) (files : List SourceFile) → AreReads reads files → ReadsFit reads
-reads_fit [] [] are = tt
-reads_fit [] (file ∷ files) are = absurd are
-reads_fit (read ∷ reads) [] are = absurd are
-reads_fit (read ∷ reads) (file ∷ files) are = (one_fits read file are.0, reads_fit reads files are.1)
+use Rattle.jn_front.specs.Files.{AreReads, names_of, most_files}
 
 -- as many as there are names
 as_many_reads : (reads : List SourceRead) (files : List SourceFile) → AreReads reads files → length reads ≡ length (names_of files)

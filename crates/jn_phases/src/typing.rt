@@ -16,7 +16,6 @@ ghost use Rattle.jn_program.specs.Lowered.{IsProgram};
 ghost use Rattle.jn_program_law.specs.FileSources.{sources};
 ghost use Rattle.jn_command.specs.Stands.{StandIn};
 ghost use Rattle.jn_diag.specs.Order.{IsOrderOf};
-ghost use Rattle.jn_front.specs.Counted.{ReadsFit};
 ghost use Rattle.jn_front.specs.declared.source.SourceFile.{SourceFile as SpecFile};
 ghost use Rattle.jn_front.specs.Files.{files_of_reads, AreReads, most_files};
 ghost use Rattle.jn_front.specs.Limits.{row_at};
@@ -35,7 +34,7 @@ use jn_index::BaseTyped;
 use jn_index::indexed::IndexedProgram;
 use jn_points::Body;
 use jn_program::lowering::{LoweredProgram, lower_others};
-use jn_sharing::Gate;
+use jn_sharing::{Gate, Workers};
 use jn_trees::{FileTree, Names};
 use std::alloc::Global;
 use std::thread::Threads;
@@ -109,7 +108,7 @@ fn typed(alloc: Global, base: BaseTyped) -> Typing
 fn find_program<R: Threads + Sync>(
     rt: &R,
     alloc: Global,
-    workers: u32,
+    workers: Workers,
     infer: Infer,
     reads: &[SourceRead],
     names: &Names,
@@ -120,7 +119,6 @@ fn find_program<R: Threads + Sync>(
     requires program { (of : ProgramOf infer (files_of_reads reads.now) names.now program)
         × (of.trees ≡ map placed_file trees.now) }
     requires known { AreTyped program known.now }
-    requires workers { (1 ≤ workers) × (workers ≤ 16) }
     ensures { IfOk result (λ typing.
         IsTyping infer (files_of_reads reads.now) names.now (map placed_file trees.now) typing) }
 {
@@ -148,7 +146,7 @@ pub struct TypedTable {
 fn find_lowered<R: Threads + Sync>(
     rt: &R,
     alloc: Global,
-    workers: u32,
+    workers: Workers,
     infer: Infer,
     reads: &[SourceRead],
     names: &Names,
@@ -160,7 +158,6 @@ fn find_lowered<R: Threads + Sync>(
         × (of.trees ≡ map placed_file trees.now) }
     requires heads { lowered.heads ≡ heads (map placed_file trees.now) }
     requires known { AreTyped lowered.program known.now }
-    requires workers { (1 ≤ workers) × (workers ≤ 16) }
     ensures typing { IfOk result (λ found.
         IsTyping infer (files_of_reads reads.now) names.now (map placed_file trees.now) found.typing) }
     ensures heads { IfOk result
@@ -186,7 +183,7 @@ fn find_lowered<R: Threads + Sync>(
 pub fn find_table<R: Threads + Sync>(
     rt: &R,
     alloc: Global,
-    workers: u32,
+    workers: Workers,
     infer: Infer,
     reads: &[SourceRead],
     names: &Names,
@@ -202,7 +199,6 @@ pub fn find_table<R: Threads + Sync>(
         (sources (map placed_file trees.now)) bodies.now known.now }
     requires typed { (P : Program) → IsProgram infer (map placed_file trees.now) P
         → AreTyped P known.now }
-    requires workers { (1 ≤ workers) × (workers ≤ 16) }
     ensures typing { IfOk result (λ found.
         IsTyping infer (files_of_reads reads.now) names.now (map placed_file trees.now) found.typing) }
     ensures heads { IfOk result
@@ -258,7 +254,7 @@ pub fn refused_types(
 pub fn find_trees<R: Threads + Sync>(
     rt: &R,
     alloc: Global,
-    workers: u32,
+    workers: Workers,
     infer: Infer,
     reads: &[SourceRead],
     names: &Names,
@@ -266,7 +262,6 @@ pub fn find_trees<R: Threads + Sync>(
 ) -> Result<Typing, OutOfMemory>
     requires parsed { (tokens : List (List SpecToken))
         × AreParsed (files_of_reads reads.now) names.now tokens (map placed_file trees.now) }
-    requires workers { (1 ≤ workers) × (workers ≤ 16) }
     ensures { IfOk result (λ typing.
         IsTyping infer (files_of_reads reads.now) names.now (map placed_file trees.now) typing) }
 {
@@ -309,14 +304,11 @@ pub fn type_files<R: Threads + Sync, G: Gate + Sync>(
     rt: &R,
     gate: &G,
     alloc: Global,
-    workers: u32,
+    workers: Workers,
     infer: Infer,
     reads: &[SourceRead],
 ) -> Result<TypedFiles, OutOfMemory>
-    requires workers { (1 ≤ workers) × (workers ≤ 16) }
     requires few { length reads.now ≤ most_files }
-    requires fit { ReadsFit reads.now }
-    requires read { (files : List SpecFile) × AreReads reads.now files }
     ensures typed { IfOk result (λ typed. (files : List SpecFile) → AreReads reads.now files
         → IsTypedOr infer files typed.names (map placed_file typed.trees.items) typed.rows
         typed.base) }

@@ -1,5 +1,5 @@
 //! The program of files, or its rows J1 to J6.
-ghost use Rattle.std.specs.Prelude.{◌≡◌, ◌≤◌, map, IfErr, IfOk};
+ghost use Rattle.std.specs.Prelude.{◌≡◌, map, IfErr, IfOk};
 ghost use Rattle.jn_base.specs.declared.infer.Infer.{Infer};
 ghost use Rattle.jn_heads.specs.Extract.{heads};
 ghost use Rattle.jn_heads.specs.Inferred.{slots_by};
@@ -22,6 +22,7 @@ use jn_index::indexed::IndexedProgram;
 use jn_lower_rows::files::file_rows;
 use jn_points::Body;
 use jn_program_law::law::{inferring_programs_are_regular, programs_of_tables_are_regular};
+use jn_sharing::Workers;
 use jn_trees::FileTree;
 use std::alloc::Global;
 use std::thread::Threads;
@@ -34,12 +35,11 @@ fn lower_files<R: Threads + Sync>(
     files: &[FileTree],
     bodies: &[Body],
     known: &[bool],
-    workers: u32,
+    workers: Workers,
 ) -> Result<LoweredFiles, OutOfMemory>
     requires table { table.now.heads ≡ heads (map placed_file files.now) }
     requires known { AreKnown (tables.table table.now.heads)
         (sources (map placed_file files.now)) bodies.now known.now }
-    requires workers { 1 ≤ workers }
     ensures bodies { IfOk result (λ l. l.bodies
         ≡ bodies_of (tables.table (heads (map placed_file files.now)))
         (sources (map placed_file files.now))) }
@@ -56,7 +56,7 @@ fn lower_files<R: Threads + Sync>(
         &sources,
         bodies,
         known,
-        workers - 1,
+        workers.count() - 1,
     )?;
     push_all(&mut rows, lowered.rows.as_slice())?;
     Ok(LoweredFiles {
@@ -79,10 +79,9 @@ pub fn lower<R: Threads + Sync>(
     alloc: Global,
     table: ClassTable,
     files: &[FileTree],
-    workers: u32,
+    workers: Workers,
 ) -> Result<IndexedProgram, Fail<Seq<Row>>>
     requires table { table.heads ≡ heads (map placed_file files.now) }
-    requires workers { (1 ≤ workers) × (workers ≤ 16) }
     ensures lowered { IfOk result (λ p. (infer : Infer)
         → table.slots ≡ slots_by infer (map placed_file files.now)
         → IsProgram infer (map placed_file files.now) p) }
@@ -112,11 +111,10 @@ pub fn lower_others<R: Threads + Sync>(
     files: &[FileTree],
     bodies: &[Body],
     known: &[bool],
-    workers: u32,
+    workers: Workers,
 ) -> Result<LoweredProgram, Fail<Seq<Row>>>
     requires table { table.heads ≡ heads (map placed_file files.now) }
     requires known { AreKnown (tables.table table.heads) (sources (map placed_file files.now)) bodies.now known.now }
-    requires workers { (1 ≤ workers) × (workers ≤ 16) }
     ensures lowered { IfOk result (λ l. (infer : Infer)
         → table.slots ≡ slots_by infer (map placed_file files.now)
         → IsProgram infer (map placed_file files.now) l.program) }

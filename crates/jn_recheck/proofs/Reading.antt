@@ -1,9 +1,8 @@
 -- Files that are read one after the other.
-use Rattle.std.proofs.Common.{◌≡◌, ℕ, suc, ◌+◌, ◌<◌, ◌≤◌, List, [], ◌∷◌, ◌++◌, length, take, get_or, refl, sym, ap, subst}
+use Rattle.std.proofs.Common.{◌≡◌, ℕ, suc, ◌+◌, ◌<◌, List, [], ◌∷◌, ◌++◌, length, take, get_or, refl, sym, ap, subst}
 use Rattle.std.proofs.lemmas.List.{take_more}
 use Rattle.jn_front.specs.declared.source.SourceFile.{SourceFile}
 use Rattle.jn_front.specs.declared.source.SourceRead.{SourceRead}
-use Rattle.jn_front.specs.Counted.{ReadsFit}
 use Rattle.jn_front.specs.Files.{AreReads, IsReadOf}
 
 reads_last : (reads : List SourceRead) (files : List SourceFile) (read : SourceRead) (file : SourceFile) → AreReads reads files → IsReadOf read file → AreReads (reads ++ read ∷ []) (files ++ file ∷ [])
@@ -16,13 +15,6 @@ pub reads_more : (reads more : List SourceRead) (files : List SourceFile) (read 
 reads_more reads more files read d i lt are is e =
     subst (λ fs. AreReads more fs) (sym (take_more files i d lt))
     (subst (λ rs. AreReads rs (take i files ++ get_or files i d ∷ [])) (sym e) (reads_last reads (take i files) read (get_or files i d) are is))
-
-pub fit_more : (reads more : List SourceRead) (read : SourceRead) → ReadsFit reads → length read.file.bytes ≤ 1048576 → more ≡ reads ++ read ∷ [] → ReadsFit more
-fit_more reads more read fit le e = subst ReadsFit (sym e) (fit_last reads fit)
-  where
-    fit_last : (rs : List SourceRead) → ReadsFit rs → ReadsFit (rs ++ read ∷ [])
-    fit_last [] f = (le, tt)
-    fit_last (r ∷ rs) f = (f.0, fit_last rs f.1)
 
 pub reads_long : (reads : List SourceRead) (files : List SourceFile) → AreReads reads files → length reads ≡ length files
 reads_long [] [] are = refl

@@ -1,7 +1,6 @@
 //! What is kept of a report that came to the rules.
 ghost use Rattle.std.specs.Prelude.{◌≡◌, ◌≤◌, ◌<◌, [], false, IfOk, IsSome, List, length};
 ghost use Rattle.jn_contrib.specs.Entries.{AreOverriders};
-ghost use Rattle.jn_front.specs.Counted.{ReadsFit};
 ghost use Rattle.jn_front.specs.Files.{AreReads, most_files};
 ghost use Rattle.jn_front.specs.declared.source.SourceFile.{SourceFile as FileOf};
 ghost use Rattle.jn_kept_points.specs.Typings.{IsKeptOf};
@@ -16,7 +15,6 @@ ghost use Rattle.jn_recheck.specs.Standing.{StandsIn, StandsOn};
 ghost use Rattle.jn_system.specs.Rows.{least_rows};
 ghost use Rattle.jn_transfer.specs.Rules.{pairs_rows};
 
-use crate::workers::Workers;
 use jn_base::{Infer, OutOfMemory, Row, Seq};
 use jn_contrib::Overrider;
 use jn_front::{SourceFile, SourceRead};
@@ -25,7 +23,7 @@ use jn_index::indexed::IndexedProgram;
 use jn_kept_points::{KeptTyping, nothing_unchanged};
 use jn_kept_trees::{KeptTree, TypedOn, type_files_again, type_files_on};
 use jn_points::Program;
-use jn_sharing::Gate;
+use jn_sharing::{Gate, Workers};
 use jn_sigs::Sig;
 use jn_trees::Names;
 use std::alloc::Global;
@@ -162,8 +160,6 @@ pub(crate) fn type_again<R: Threads + Sync, G: Gate + Sync>(
     solving: &G,
 ) -> Result<TypedOn, OutOfMemory>
     requires few { length reads.now ≤ most_files }
-    requires fit { ReadsFit reads.now }
-    requires read { (files : List FileOf) × AreReads reads.now files }
     requires trees { AreKeptTrees last.now trees.items }
     requires stands { StandsOn infer trees.items kept.old typing.now }
     ensures typed { IfOk result (λ on. (files : List FileOf) → AreReads reads.now files
@@ -177,16 +173,7 @@ pub(crate) fn type_again<R: Threads + Sync, G: Gate + Sync>(
 {
     match typing {
         None => {
-            let typed = type_files_again(
-                rt,
-                solving,
-                alloc,
-                workers.count(),
-                infer,
-                reads,
-                last,
-                trees,
-            )?;
+            let typed = type_files_again(rt, solving, alloc, workers, infer, reads, last, trees)?;
             Ok(TypedOn {
                 typed,
                 unchanged: nothing_unchanged(alloc),
@@ -198,7 +185,7 @@ pub(crate) fn type_again<R: Threads + Sync, G: Gate + Sync>(
                 rt,
                 solving,
                 alloc,
-                workers.count(),
+                workers,
                 infer,
                 reads,
                 last,

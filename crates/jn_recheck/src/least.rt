@@ -7,12 +7,11 @@ ghost use Rattle.jn_recheck_law.specs.Alike.{SameDeclarations};
 ghost use Rattle.jn_recheck.specs.KeptRows.{TellsKnown, TellsSame};
 
 use crate::kept::Kept;
-use crate::workers::Workers;
 use jn_again::{Earlier, solve_again};
 use jn_base::OutOfMemory;
 use jn_contrib::Overrider;
 use jn_index::BaseTyped;
-use jn_sharing::Gate;
+use jn_sharing::{Gate, Workers};
 use jn_sigs::Sig;
 use jn_system::solve_with;
 use jn_tables_law::law::regular_programs_can_be_inferred;
@@ -55,7 +54,7 @@ fn least_from<R: Threads + Sync, G: Gate + Sync>(
         overriders,
         same,
         known,
-        workers.count(),
+        workers,
         solving,
     )?;
     Ok(sig)
@@ -82,14 +81,7 @@ pub(crate) fn least_sig<R: Threads + Sync, G: Gate + Sync>(
     regular_programs_can_be_inferred();
     match kept {
         None => {
-            let sig = solve_with(
-                rt,
-                alloc,
-                base.program(),
-                overriders,
-                workers.count(),
-                solving,
-            )?;
+            let sig = solve_with(rt, alloc, base.program(), overriders, workers, solving)?;
             Ok(sig)
         }
         Some(kept) => least_from(

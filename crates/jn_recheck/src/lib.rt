@@ -14,6 +14,5 @@ mod rows;
 pub mod session;
 mod shown;
 mod telling;
-mod workers;
 
 pub use session::{Checked, Session};

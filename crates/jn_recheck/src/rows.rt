@@ -1,11 +1,8 @@
 //! The rows of all bodies, of which those that are reusable aren't made anew.
-ghost use Rattle.std.specs.Prelude.{◌≡◌, ◌≤◌, ◌<◌, ◌^◌, ◌↔◌, ◌++◌, ◌∷◌, [], ℕ, List, flat_map, IfOk, MatchOption, OnOk, None, Some, get_or, length, false, true};
-ghost use Rattle.jn_base.specs.declared.place.Row.{Row as RowOf};
+ghost use Rattle.std.specs.Prelude.{◌≡◌, ◌<◌, ◌^◌, ◌↔◌, ◌++◌, ◌∷◌, [], flat_map, IfOk, OnOk, None, Some, get_or, length, false, true};
 ghost use Rattle.jn_contrib.specs.Entries.{AreOverriders};
 ghost use Rattle.jn_tables_law.specs.Inferable.{IsInferable};
 ghost use Rattle.jn_inference_law.specs.Solution.{IsLeastSignature};
-ghost use Rattle.jn_recheck_law.specs.Alike.{SameDeclarations};
-ghost use Rattle.jn_recheck_law.specs.Reusable.{IsReusable, Solved as SolvedOf};
 ghost use Rattle.jn_recheck.specs.KeptRows.{AreKept, AreMadeAnew, IsReusableFrom, TellsEqual, TellsNamed, TellsSame};
 ghost use Rattle.jn_recheck.specs.Found.{AreFound, IsFound, Tells, made_of, rows_found, solved_of};
 ghost use Rattle.jn_recheck.specs.Standing.{StandsIn};
@@ -17,7 +14,6 @@ ghost use Rattle.jn_transfer.specs.Rules.{pairs_rows};
 
 use crate::kept::Kept;
 use crate::pairs::pairs_again;
-use crate::workers::Workers;
 use jn_base::{BodyNo, OutOfMemory, Row, Seq};
 use jn_contrib::Overrider;
 use jn_diag::order;
@@ -27,7 +23,7 @@ use jn_kept_points::Unchanged;
 use jn_kept_points::known::is_told;
 use jn_points::Program;
 use jn_reuse::{Solved, is_reusable, same_declarations, same_names, same_sigs};
-use jn_sharing::{Gate, share_out};
+use jn_sharing::{Gate, Workers, share_out};
 use jn_sigs::Sig;
 use jn_system::bodies::Bodies;
 use jn_system::checking::rows_of;

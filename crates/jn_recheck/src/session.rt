@@ -1,6 +1,6 @@
 //! A session: files that are edited, and reports of them.
 ghost use Rattle.std.specs.Prelude.{◌≡◌, ◌≢◌, ◌≤◌, ◌↔◌, [], None, Some, OnOk, OnErr, IfOk, length, true};
-ghost use Rattle.jn_recheck.specs.Files.{AllFit, HaveOwnNames, changed, place_of, with_file, without_file};
+ghost use Rattle.jn_recheck.specs.Files.{AllFit, HaveOwnNames, place_of, with_file, without_file};
 ghost use Rattle.jn_recheck.specs.Sessions.{HaveNotes, Reports, or_else};
 
 use crate::file_set::FileSet;
@@ -8,7 +8,6 @@ use crate::kept::Kept;
 use crate::notes::notes_of;
 use crate::recheck::{FilesAgain, Rechecked, recheck_files};
 use crate::telling::{tell, told_again};
-use crate::workers::Workers;
 use jn_base::{Infer, OutOfMemory, Row};
 use jn_command::Report;
 use jn_diag::{RowText, Verdict};
@@ -16,7 +15,7 @@ use jn_front::SourceFile;
 use jn_kept_points::KeptTyping;
 use jn_kept_trees::KeptTree;
 use jn_note_words::Notes;
-use jn_sharing::Gate;
+use jn_sharing::{Gate, Workers};
 use std::alloc::Global;
 use std::marker::Model;
 use std::mem::replace;
@@ -161,11 +160,10 @@ impl Session {
     pub fn report<R: Threads + Sync, G: Gate + Sync, H: Gate + Sync>(
         &mut self,
         rt: &R,
-        workers: u32,
+        workers: Workers,
         solving: &G,
         bodies: &H,
     ) -> Result<Checked, OutOfMemory>
-        requires workers { (1 ≤ workers) × (workers ≤ 16) }
         ensures reports { IfOk result (λ checked. Reports self.old self.new checked.rows.items
             checked.places.items checked.verdict checked.files checked.bodies) }
         ensures unchanged { OnErr result (self.new ≡ self.old) }
@@ -190,7 +188,7 @@ impl Session {
         } = recheck_files(
             rt,
             alloc,
-            Workers::of(workers),
+            workers,
             self.infer,
             self.files.as_slice(),
             self.last.as_slice(),

@@ -1,7 +1,6 @@
 //! The line that tells how a run ended.
 ghost use Rattle.std.specs.Prelude.{◌≡◌, ◌≤◌, length, Some, IfOk};
 ghost use Rattle.jn_base.specs.Place.{place_in};
-ghost use Rattle.jn_front.specs.Counted.{ReadsFit};
 ghost use Rattle.jn_front.specs.Files.{files_of_reads};
 ghost use Rattle.jn_run.specs.Line.{place_in_file, place_text, fault_line};
 ghost use Rattle.jn_run.specs.Telling as spec;
@@ -57,7 +56,6 @@ fn place_in_file(alloc: Global, file: &SourceFile, span: Span) -> Result<Vec<u8>
 
 /// FILE:LINE:COL of a span's first byte; a span of no file has no name, and stands at its beginning.
 fn place_text(alloc: Global, reads: &[SourceRead], span: Span) -> Result<Vec<u8>, AllocError>
-    requires fit { ReadsFit reads.now }
     ensures { IfOk result (λ text. text.items ≡ place_text (files_of_reads reads.now) span) }
 {
     let file = span.file.0 as usize;
@@ -75,7 +73,6 @@ fn fault_line(
     kind: FaultKind,
     span: Span,
 ) -> Result<Vec<u8>, AllocError>
-    requires fit { ReadsFit reads.now }
     ensures { IfOk result
         (λ line. line.items ≡ fault_line (files_of_reads reads.now) (spec.class_name kind) span) }
 {
@@ -95,7 +92,6 @@ fn fault_output(
     kind: FaultKind,
     span: Span,
 ) -> Result<Output, OutOfMemory>
-    requires fit { ReadsFit reads.now }
     ensures status { IfOk result (λ output. output.status ≡ Status.RunFault) }
     ensures bytes { IfOk result (λ output.
         output.bytes ≡ fault_line (files_of_reads reads.now) (spec.class_name kind) span) }
@@ -115,7 +111,6 @@ pub(crate) fn tell<K: Sink>(
     ended: Ended,
     out: &mut K,
 ) -> Status
-    requires fit { ReadsFit reads.now }
     ensures { spec.Tells (K.written out.old) (K.written out.new) (K.faults out.old)
         (K.faults out.new) (files_of_reads reads.now) ended result }
 {

@@ -1,7 +1,6 @@
 //! The run of the one main of an accepted program of files.
 ghost use Rattle.std.specs.Prelude.{◌≡◌, ◌≢◌, ◌≤◌, ◌<◌};
 ghost use Rattle.jn_outside.specs.Causes.{Rose};
-ghost use Rattle.jn_front.specs.Counted.{ReadsFit};
 ghost use Rattle.jn_front.specs.Files.{files_of_reads};
 ghost use Rattle.jn_run.specs.Main.{Answers};
 
@@ -31,7 +30,6 @@ pub fn run_files<K: Sink>(
     steps: u64,
     out: &mut K,
 ) -> Status
-    requires fit { ReadsFit reads.now }
     ensures answer { Answers (files_of_reads reads.now) accepted.now.0 names.now words.now steps
         (K.written out.old) (K.written out.new) result }
     ensures write { result ≡ Status.WriteFault → Rose (K.faults out.old) (K.faults out.new) }

@@ -18,10 +18,9 @@ pub fn field_of(program: &IndexedProgram, class: ClassNo, name: NameNo) -> Optio
         (λ f. spec.field_of program.now class.0 name.0 ≡ Some f.0) }
 {
     program.facts();
-    let lists = program.program();
-    match program.index() {
-        Some(index) => fields::field_of(lists, index, class, name),
-        None => jn_points::field_of(lists, class, name),
+    match program.indexed() {
+        Some(indexed) => fields::field_of(&indexed, class, name),
+        None => jn_points::field_of(program.program(), class, name),
     }
 }
 
@@ -54,13 +53,12 @@ pub fn declared_field(program: &IndexedProgram, class: ClassNo, name: NameNo) ->
         (λ f. spec.declared_field program.now class.0 name.0 class.0 ≡ Some f.0) }
 {
     program.facts();
-    let lists = program.program();
-    match program.index() {
-        Some(index) => match fields::declared_field(lists, index, class, name, class.0) {
+    match program.indexed() {
+        Some(indexed) => match fields::declared_field(&indexed, class, name, class.0) {
             None => None,
             Some(number) => Some(FieldNo(number)),
         },
-        None => listed_field(lists, class, name),
+        None => listed_field(program.program(), class, name),
     }
 }
 
@@ -87,10 +85,9 @@ pub fn method_of(
         (λ m. spec.method_of program.now class.0 name.0 arity ≡ Some m.0) }
 {
     program.facts();
-    let lists = program.program();
-    match program.index() {
-        Some(index) => lookup::method_of(lists, index, class, name, arity),
-        None => listed_method(lists, class, name, arity),
+    match program.indexed() {
+        Some(indexed) => lookup::method_of(&indexed, class, name, arity),
+        None => listed_method(program.program(), class, name, arity),
     }
 }
 
@@ -115,10 +112,9 @@ pub fn constructor_of(program: &IndexedProgram, class: ClassNo, arity: usize) ->
         (λ m. spec.constructor_of program.now class.0 arity ≡ Some m.0) }
 {
     program.facts();
-    let lists = program.program();
-    match program.index() {
-        Some(index) => lookup::constructor_of(lists, index, class, arity),
-        None => listed_constructor(lists, class, arity),
+    match program.indexed() {
+        Some(indexed) => lookup::constructor_of(&indexed, class, arity),
+        None => listed_constructor(program.program(), class, arity),
     }
 }
 
@@ -143,8 +139,8 @@ pub fn class_named(program: &IndexedProgram, name: NameNo) -> Option<ClassNo>
         (λ c. scopes.class_named program.now name.0 ≡ Some c.0) }
 {
     program.facts();
-    match program.index() {
-        Some(index) => lookup::class_named(index, name),
+    match program.indexed() {
+        Some(indexed) => lookup::class_named(&indexed, name),
         None => listed_class(program.program(), name),
     }
 }

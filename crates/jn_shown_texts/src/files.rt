@@ -6,6 +6,7 @@ use crate::shape::shape_of;
 use crate::tokens::names_text;
 use jn_base::{OutOfMemory, Row, Seq, Text};
 use jn_front::{ParsedFiles, SourceFile, SourceRead, parse_files};
+use jn_sharing::Workers;
 use jn_solver_samples::Meet;
 use jn_trees::{FileTree, Names};
 use std::alloc::Global;
@@ -76,7 +77,7 @@ pub fn files_text<R: Threads + Sync>(
     }
     let reads = [whole(alloc, one)?, whole(alloc, other)?];
     let gate = Meet::new(if workers > 1 { 1 } else { 0 });
-    let parsed = parse_files(rt, alloc, &reads, workers, &gate)?;
+    let parsed = parse_files(rt, alloc, &reads, Workers::of(workers), &gate)?;
     let mut text = parsed_text(alloc, &parsed)?;
     if gate.met() {
         text.push_str(" | two workers met")?;

@@ -28,7 +28,10 @@ fn shown(alloc: Global, command: &Command) -> Result<String, AllocError> {
     let files = joined(alloc, &command.files)?;
     format!(in alloc;
         "{} {report} {} {} {args} {} {files}",
-        command.workers, command.run, command.steps, command.classes
+        command.workers.count(),
+        command.run,
+        command.steps,
+        command.classes
     )
 }
 

@@ -1,10 +1,11 @@
 //! Systems solved by workers and on one thread.
-ghost use Rattle.std.specs.Prelude.{◌≡◌, ◌+◌, ◌/◌, ◌<◌, ◌≤◌, replicate, IfOk};
+ghost use Rattle.std.specs.Prelude.{◌≡◌, ◌+◌, ◌/◌, ◌<◌, replicate, IfOk};
 ghost use Rattle.jn_sigtable.specs.System.{least};
 ghost use Rattle.jn_solver_samples.specs.Nets.{net_of};
 
 use crate::net::Net;
 use jn_base::OutOfMemory;
+use jn_sharing::Workers;
 use jn_sigtable::Constraints;
 use jn_workers::{Straight, solve};
 use jn_worklist::{drain, plan};
@@ -16,10 +17,9 @@ pub fn solved<R: Threads + Sync>(
     rt: &R,
     alloc: Global,
     net: Net,
-    workers: u32,
+    workers: Workers,
 ) -> Result<Vec<u64>, OutOfMemory>
     requires any { 0 < net.bodies }
-    requires workers { (0 < workers) × (workers ≤ 16) }
     ensures { IfOk result
         (λ words. words.items ≡ least (net_of net.shape net.bodies) (replicate net.bodies 0)) }
 {

@@ -1,10 +1,11 @@
-ghost use Rattle.std.specs.Prelude.{◌<◌, ◌≤◌};
+ghost use Rattle.std.specs.Prelude.{◌<◌};
 
 use crate::{Meet, Net, Pair, Shape, Starved, drained, solved};
 use jn_base::{BodyNo, OutOfMemory};
+use jn_sharing::Workers;
 use jn_sigtable::SigTable;
 use jn_workers::{Straight, solve};
-use jn_worklist::{plan, run_body};
+use jn_worklist::{Task, plan, run_body};
 use std::alloc::Global;
 use std::test::Fail;
 use std::thread::Threads;
@@ -12,7 +13,7 @@ use std::thread::Threads;
 #[test]
 fn one_two_and_sixteen_workers(rt: HostRuntime) -> Result<(), Fail> {
     for workers in [1, 2, 16] {
-        let Ok(words) = solve(&rt, rt.alloc(), Pair, &[0], workers, &Straight) else {
+        let Ok(words) = solve(&rt, rt.alloc(), Pair, &[0], Workers::of(workers), &Straight) else {
             panic!(rt; "no memory")
         };
         assert!(rt; words.len() == 1 && words[0] == 6);
@@ -40,7 +41,12 @@ fn a_body_that_was_run_is_clear(rt: HostRuntime) -> Result<(), Fail> {
     let Some(body) = table.take_body(&mut pass, BodyNo(0)) else {
         panic!(rt; "not dirty at the start")
     };
-    let run = run_body(rt.alloc(), &table, &readers, &mut pass, body);
+    let task = Task {
+        table: &table,
+        plan: &readers,
+        body,
+    };
+    let run = run_body(rt.alloc(), &task, &mut pass);
     assert!(rt; run.is_ok());
     assert!(rt; table.take_body(&mut pass, BodyNo(0)) == None);
     let Ok((_, words)) = table.close(rt.alloc(), pass) else {
@@ -61,7 +67,12 @@ fn a_body_without_memory_is_dirty_again(rt: HostRuntime) -> Result<(), Fail> {
     let Some(body) = table.take_body(&mut pass, BodyNo(0)) else {
         panic!(rt; "not dirty at the start")
     };
-    let run = run_body(rt.alloc(), &table, &readers, &mut pass, body);
+    let task = Task {
+        table: &table,
+        plan: &readers,
+        body,
+    };
+    let run = run_body(rt.alloc(), &task, &mut pass);
     assert!(rt; run.is_err());
     assert!(rt; table.take_body(&mut pass, BodyNo(0)) == Some(BodyNo(0)));
     let Ok((_, words)) = table.close(rt.alloc(), pass) else {
@@ -74,7 +85,17 @@ fn a_body_without_memory_is_dirty_again(rt: HostRuntime) -> Result<(), Fail> {
 #[test]
 fn workers_without_memory(rt: HostRuntime) -> Result<(), Fail> {
     for workers in [1, 2] {
-        assert!(rt; solve(&rt, rt.alloc(), Starved, &[0], workers, &Straight).is_err());
+        assert!(rt;
+            solve(
+                &rt,
+                rt.alloc(),
+                Starved,
+                &[0],
+                Workers::of(workers),
+                &Straight
+            )
+            .is_err()
+        );
     }
     Ok(())
 }
@@ -82,7 +103,7 @@ fn workers_without_memory(rt: HostRuntime) -> Result<(), Fail> {
 #[test]
 fn two_workers_meet(rt: HostRuntime) -> Result<(), Fail> {
     let gate = Meet::new(1);
-    let Ok(words) = solve(&rt, rt.alloc(), Pair, &[0], 2, &gate) else {
+    let Ok(words) = solve(&rt, rt.alloc(), Pair, &[0], Workers::of(2), &gate) else {
         panic!(rt; "no memory")
     };
     assert!(rt; words.len() == 1 && words[0] == 6);
@@ -95,11 +116,10 @@ fn finds<R: Threads + Sync>(
     rt: &R,
     alloc: Global,
     net: Net,
-    workers: u32,
+    workers: Workers,
     expected: &Vec<u64>,
 ) -> Result<bool, OutOfMemory>
     requires any { 0 < net.bodies }
-    requires workers { (0 < workers) × (workers ≤ 16) }
 {
     let words = solved(rt, alloc, net, workers)?;
     Ok(words == *expected)
@@ -112,10 +132,10 @@ fn agrees<R: Threads + Sync>(rt: &R, alloc: Global, shape: Shape) -> Result<bool
         bodies: 2000,
     };
     let expected = drained(alloc, &net)?;
-    let one = finds(rt, alloc, net, 1, &expected)?;
-    let two = finds(rt, alloc, net, 2, &expected)?;
-    let four = finds(rt, alloc, net, 4, &expected)?;
-    let sixteen = finds(rt, alloc, net, 16, &expected)?;
+    let one = finds(rt, alloc, net, Workers::of(1), &expected)?;
+    let two = finds(rt, alloc, net, Workers::of(2), &expected)?;
+    let four = finds(rt, alloc, net, Workers::of(4), &expected)?;
+    let sixteen = finds(rt, alloc, net, Workers::of(16), &expected)?;
     Ok(one && two && four && sixteen)
 }
 

@@ -1,5 +1,5 @@
 //! The rows of all bodies and overriding pairs, by any number of workers.
-ghost use Rattle.std.specs.Prelude.{◌≡◌, ℕ, ◌++◌, ◌<◌, ◌≤◌, length, flat_map, slice_index_or, IfOk, OnOk, Vec};
+ghost use Rattle.std.specs.Prelude.{◌≡◌, ℕ, ◌++◌, ◌<◌, length, flat_map, slice_index_or, IfOk, OnOk, Vec};
 ghost use Rattle.std.proofs.Common.{Global};
 ghost use Rattle.jn_base.specs.declared.place.Row.{Row as RowOf};
 ghost use Rattle.jn_points.specs.Members.{below};
@@ -17,7 +17,7 @@ use jn_env::{Keys, OwnFields, find_keys_by};
 use jn_flow::flow_by;
 use jn_index::indexed::IndexedProgram;
 use jn_points::Program;
-use jn_sharing::share_out;
+use jn_sharing::{Workers, share_out};
 use jn_sigs::Sig;
 use jn_transfer::Analysis;
 use jn_workers::Gate;
@@ -92,11 +92,10 @@ fn bodies_rows<R: Threads + Sync, G: Gate + Sync>(
     rt: &R,
     alloc: Global,
     bodies: &Bodies,
-    workers: u32,
+    workers: Workers,
     gate: &G,
 ) -> Result<Vec<Row>, OutOfMemory>
     requires ready { AreReady bodies.now.program.now bodies.now.own.now }
-    requires workers { 0 < workers }
     ensures { IfOk result (λ all. all.items
         ≡ flat_map (least_rows bodies.now.program.now bodies.now.sig.now)
         (below (length bodies.now.program.now.bodies))) }
@@ -108,7 +107,7 @@ fn bodies_rows<R: Threads + Sync, G: Gate + Sync>(
         ensures { IfOk result (λ rows. rows.items
             ≡ least_rows bodies.entry.now.program.now bodies.entry.now.sig.now body) }
     { rows_of(alloc, bodies, body as u32, worker, gate) };
-    let found = share_out(rt, alloc, count, workers - 1, &rows)?;
+    let found = share_out(rt, alloc, count, workers.count() - 1, &rows)?;
     let all = in_order(alloc, bodies, &found)?;
     Ok(all)
 }
@@ -121,12 +120,11 @@ fn rows_with<R: Threads + Sync, G: Gate + Sync>(
     program: &Program,
     sig: &Sig,
     pairs: &[Row],
-    workers: u32,
+    workers: Workers,
     gate: &G,
 ) -> Result<Vec<Row>, OutOfMemory>
     requires inferable { IsInferable program.now }
     requires pairs { pairs.now ≡ pairs_rows program.now sig.now }
-    requires workers { (0 < workers) × (workers ≤ 16) }
     ensures { IfOk result (λ rows. AreBroken program.now sig.now rows.items) }
 {
     let own = OwnFields::new(alloc, program)?;
@@ -151,11 +149,10 @@ pub fn check_all<R: Threads + Sync, G: Gate + Sync>(
     alloc: Global,
     program: &IndexedProgram,
     sig: &Sig,
-    workers: u32,
+    workers: Workers,
     gate: &G,
 ) -> Result<Vec<Row>, OutOfMemory>
     requires inferable { IsInferable program.now }
-    requires workers { (0 < workers) × (workers ≤ 16) }
     ensures { IfOk result (λ rows. AreBroken program.now sig.now rows.items) }
 {
     let pairs = override_rows(alloc, program, sig)?;

@@ -11,6 +11,7 @@ use jn_contrib::{Overrider, overriders};
 use jn_env::OwnFields;
 use jn_index::indexed::IndexedProgram;
 use jn_points::Program;
+use jn_sharing::Workers;
 use jn_sigs::{Sig, start};
 use jn_workers::{Gate, solve};
 use std::alloc::Global;
@@ -41,12 +42,11 @@ pub fn solve_with<R: Threads + Sync, G: Gate + Sync>(
     alloc: Global,
     program: &Program,
     overriders: &[Overrider],
-    workers: u32,
+    workers: Workers,
     gate: &G,
 ) -> Result<Sig, OutOfMemory>
     requires inferable { IsInferable program.now }
     requires overriders { AreOverriders program.now overriders.now }
-    requires workers { (0 < workers) × (workers ≤ 16) }
     ensures { IfOk result (λ sig. IsLeastSignature program.now sig) }
 {
     let first = start(alloc, program)?;
@@ -74,11 +74,10 @@ pub fn solve_sig<R: Threads + Sync, G: Gate + Sync>(
     rt: &R,
     alloc: Global,
     program: &IndexedProgram,
-    workers: u32,
+    workers: Workers,
     gate: &G,
 ) -> Result<Sig, OutOfMemory>
     requires inferable { IsInferable program.now }
-    requires workers { (0 < workers) × (workers ≤ 16) }
     ensures { IfOk result (λ sig. IsLeastSignature program.now sig) }
 {
     let list = overriders(alloc, program)?;

@@ -218,13 +218,12 @@ fn looks_up_members(rt: HostRuntime) {
 }
 
 fn expect_members(rt: &impl Abort, indexed: &IndexedProgram) {
-    let program = indexed.program();
-    let Some(index) = indexed.index() else {
+    let Some(program) = indexed.indexed() else {
         panic!(rt; "no index")
     };
     assert_eq!(rt;
-        lookup::dispatch(program, index, SECOND, MethodNo(2)),
+        lookup::dispatch(&program, SECOND, MethodNo(2)),
         Some(AGAIN)
     );
-    assert!(rt; fields::has_field(program, index, SECOND, FieldNo(1)));
+    assert!(rt; fields::has_field(&program, SECOND, FieldNo(1)));
 }

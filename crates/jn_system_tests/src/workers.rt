@@ -1,9 +1,10 @@
 //! One program, solved and checked by one, two and sixteen workers, and by two that meet.
-ghost use Rattle.std.specs.Prelude.{◌<◌, ◌≤◌};
+ghost use Rattle.std.specs.Prelude.{◌<◌};
 
 use crate::programs::round_of_calls;
 use jn_base::{Code, Row, SlotNo};
 use jn_index::indexed::IndexedProgram;
+use jn_sharing::Workers;
 use jn_sigs::Sig;
 use jn_solver_samples::Meet;
 use jn_system::{check_all, is_inferable, solve_sig};
@@ -28,11 +29,9 @@ fn solved<R: Threads + Abort + Sync, G: Gate + Sync>(
     rt: &R,
     alloc: Global,
     program: &IndexedProgram,
-    workers: u32,
+    workers: Workers,
     gate: &G,
-) -> Sig
-    requires { (0 < workers) × (workers ≤ 16) }
-{
+) -> Sig {
     assert!(rt; is_inferable(program.program()));
     let Ok(sig) = solve_sig(rt, alloc, program, workers, gate) else {
         panic!(rt; "no memory")
@@ -46,11 +45,9 @@ fn checked<R: Threads + Abort + Sync, G: Gate + Sync>(
     alloc: Global,
     program: &IndexedProgram,
     sig: &Sig,
-    workers: u32,
+    workers: Workers,
     gate: &G,
-) -> Vec<Row>
-    requires { (0 < workers) × (workers ≤ 16) }
-{
+) -> Vec<Row> {
     assert!(rt; is_inferable(program.program()));
     let Ok(rows) = check_all(rt, alloc, program, sig, workers, gate) else {
         panic!(rt; "no memory")
@@ -59,9 +56,7 @@ fn checked<R: Threads + Abort + Sync, G: Gate + Sync>(
 }
 
 /// Parameters of the three private methods may be null, their receivers never, and one dereference is a row.
-fn expect_found<R: Threads + Abort + Sync>(rt: &R, alloc: Global, workers: u32)
-    requires { (0 < workers) × (workers ≤ 16) }
-{
+fn expect_found<R: Threads + Abort + Sync>(rt: &R, alloc: Global, workers: Workers) {
     let program = program(rt, alloc);
     let sig = solved(rt, alloc, &program, workers, &Straight);
     for (slot, bits) in [(0, 3), (1, 2), (2, 3), (3, 2), (4, 3), (5, 2)].as_slice() {
@@ -73,24 +68,24 @@ fn expect_found<R: Threads + Abort + Sync>(rt: &R, alloc: Global, workers: u32)
 
 #[test]
 fn one_worker(rt: HostRuntime) {
-    expect_found(&rt, rt.alloc(), 1);
+    expect_found(&rt, rt.alloc(), Workers::of(1));
 }
 
 #[test]
 fn two_workers(rt: HostRuntime) {
-    expect_found(&rt, rt.alloc(), 2);
+    expect_found(&rt, rt.alloc(), Workers::of(2));
 }
 
 #[test]
 fn sixteen_workers(rt: HostRuntime) {
-    expect_found(&rt, rt.alloc(), 16);
+    expect_found(&rt, rt.alloc(), Workers::of(16));
 }
 
 #[test]
 fn two_workers_meet_where_they_solve(rt: HostRuntime) {
     let program = program(&rt, rt.alloc());
     let gate = Meet::new(1);
-    let sig = solved(&rt, rt.alloc(), &program, 2, &gate);
+    let sig = solved(&rt, rt.alloc(), &program, Workers::of(2), &gate);
     assert_eq!(rt; sig.get(SlotNo(0)).bits(), 3);
     assert!(rt; gate.met());
 }
@@ -99,9 +94,9 @@ fn two_workers_meet_where_they_solve(rt: HostRuntime) {
 #[test]
 fn two_workers_meet_where_they_check(rt: HostRuntime) {
     let program = program(&rt, rt.alloc());
-    let sig = solved(&rt, rt.alloc(), &program, 1, &Straight);
+    let sig = solved(&rt, rt.alloc(), &program, Workers::of(1), &Straight);
     let gate = Meet::new(1);
-    let rows = checked(&rt, rt.alloc(), &program, &sig, 2, &gate);
+    let rows = checked(&rt, rt.alloc(), &program, &sig, Workers::of(2), &gate);
     assert_eq!(rt; rows.len(), 1);
     assert!(rt; gate.met());
     assert_eq!(rt; gate.entries(), 5);

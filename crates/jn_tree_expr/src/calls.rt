@@ -14,8 +14,9 @@ ghost use Rattle.jn_points.specs.declared.program.Program as program;
 ghost use Rattle.jn_tree_world.specs.Outcomes.{Found, Means};
 ghost use Rattle.jn_tree_world.specs.Worlds.{items_in, world_of};
 ghost use Rattle.jn_scopes.specs.Views.{callee_of};
-ghost use Rattle.jn_tree_expr.specs.Meaning.{Calls, called_behind, number_of};
+ghost use Rattle.jn_tree_expr.specs.Meaning.{called_behind, number_of};
 
+use crate::calling::{Calling, Enters};
 use jn_base::{MethodNo, RegNo, Span};
 use jn_index::indexed::IndexedProgram;
 use jn_machine::{Thing, Value};
@@ -49,15 +50,14 @@ fn given(
 }
 
 /// A method's body, where there is one and the values are there (JLS 15.12.4.5).
-fn enter<F: Fn(usize, Vec<Value>, &mut World) -> Result<Option<Value>, Halt>>(
+fn enter<F: Enters>(
     method: Option<usize>,
     values: Option<Vec<Value>>,
-    call: &F,
+    call: &Calling<F>,
     w: &mut World,
 ) -> Result<Option<Value>, Halt>
-    requires callable { F.IsAlwaysCallable call.now }
     ensures { (P : program.Program) (names : List (List ℕ)) (longest : ℕ) (m : Caller)
-        → Calls F.post call.now m
+        → F.keeps call.now m
         → Means (spec.entered P names longest m method (items_in values) (world_of w.old)) result
         (world_of w.new) }
 {
@@ -67,7 +67,7 @@ fn enter<F: Fn(usize, Vec<Value>, &mut World) -> Result<Option<Value>, Halt>>(
     let Some(all) = values else {
         return Err(Halt::Senseless);
     };
-    call(number, all, w)
+    call.enter(number, all, w)
 }
 
 /// The values after those given, where all are there.
@@ -93,16 +93,15 @@ fn this_at(alloc: Global, place: usize) -> Result<Vec<Value>, Halt>
 }
 
 /// A call of a static method (JLS 15.12.4.1).
-pub fn call_static<F: Fn(usize, Vec<Value>, &mut World) -> Result<Option<Value>, Halt>>(
+pub fn call_static<F: Enters>(
     method: MethodNo,
     arguments: &[Option<Value>],
     span: Span,
     c: &Context,
-    call: &F,
+    call: &Calling<F>,
     w: &mut World,
 ) -> Result<Option<Value>, Halt>
-    requires callable { F.IsAlwaysCallable call.now }
-    ensures { (names : List (List ℕ)) (longest : ℕ) (m : Caller) → Calls F.post call.now m
+    ensures { (names : List (List ℕ)) (longest : ℕ) (m : Caller) → F.keeps call.now m
         → Means (spec.called_static c.now.program.now names longest m span method.0 arguments.now
         (world_of w.old)) result (world_of w.new) }
 {
@@ -112,17 +111,16 @@ pub fn call_static<F: Fn(usize, Vec<Value>, &mut World) -> Result<Option<Value>,
 }
 
 /// A call of the method that the object at a place has, or of the one named.
-fn enter_on<F: Fn(usize, Vec<Value>, &mut World) -> Result<Option<Value>, Halt>>(
+fn enter_on<F: Enters>(
     method: MethodNo,
     direct: bool,
     of: Option<usize>,
     arguments: &[Option<Value>],
     c: &Context,
-    call: &F,
+    call: &Calling<F>,
     w: &mut World,
 ) -> Result<Option<Value>, Halt>
-    requires callable { F.IsAlwaysCallable call.now }
-    ensures { (names : List (List ℕ)) (longest : ℕ) (m : Caller) → Calls F.post call.now m
+    ensures { (names : List (List ℕ)) (longest : ℕ) (m : Caller) → F.keeps call.now m
         → Means (spec.entered_on c.now.program.now names longest m of method.0 direct
         (ops.all_there arguments.now) (world_of w.old)) result (world_of w.new) }
 {
@@ -136,7 +134,7 @@ fn enter_on<F: Fn(usize, Vec<Value>, &mut World) -> Result<Option<Value>, Halt>>
 }
 
 /// A call on a receiver, which is dereferenced after the arguments (JLS 15.12.4).
-pub fn call_on<F: Fn(usize, Vec<Value>, &mut World) -> Result<Option<Value>, Halt>>(
+pub fn call_on<F: Enters>(
     method: MethodNo,
     direct: bool,
     receiver: &Option<Value>,
@@ -144,11 +142,10 @@ pub fn call_on<F: Fn(usize, Vec<Value>, &mut World) -> Result<Option<Value>, Hal
     arguments: &[Option<Value>],
     span: Span,
     c: &Context,
-    call: &F,
+    call: &Calling<F>,
     w: &mut World,
 ) -> Result<Option<Value>, Halt>
-    requires callable { F.IsAlwaysCallable call.now }
-    ensures { (names : List (List ℕ)) (longest : ℕ) (m : Caller) → Calls F.post call.now m
+    ensures { (names : List (List ℕ)) (longest : ℕ) (m : Caller) → F.keeps call.now m
         → Means (spec.called_on c.now.program.now names longest m span method.0 direct receiver.now
         at arguments.now (world_of w.old)) result (world_of w.new) }
 {
@@ -158,18 +155,17 @@ pub fn call_on<F: Fn(usize, Vec<Value>, &mut World) -> Result<Option<Value>, Hal
 }
 
 /// A call on `this`.
-fn call_on_this<F: Fn(usize, Vec<Value>, &mut World) -> Result<Option<Value>, Halt>>(
+fn call_on_this<F: Enters>(
     method: MethodNo,
     direct: bool,
     at: Span,
     arguments: &[Option<Value>],
     span: Span,
     c: &Context,
-    call: &F,
+    call: &Calling<F>,
     w: &mut World,
 ) -> Result<Option<Value>, Halt>
-    requires callable { F.IsAlwaysCallable call.now }
-    ensures { (names : List (List ℕ)) (longest : ℕ) (m : Caller) → Calls F.post call.now m
+    ensures { (names : List (List ℕ)) (longest : ℕ) (m : Caller) → F.keeps call.now m
         → Means (spec.called_on c.now.program.now names longest m span method.0 direct
         (value_at w.old.locals.items 0) at arguments.now (world_of w.old)) result
         (world_of w.new) }
@@ -179,17 +175,16 @@ fn call_on_this<F: Fn(usize, Vec<Value>, &mut World) -> Result<Option<Value>, Ha
 }
 
 /// A call of a method that the class has by its name alone: on `this`, unless it is static (JLS 15.12.4.1).
-pub fn own_call<F: Fn(usize, Vec<Value>, &mut World) -> Result<Option<Value>, Halt>>(
+pub fn own_call<F: Enters>(
     method: Option<MethodNo>,
     at: Span,
     arguments: &[Option<Value>],
     span: Span,
     c: &Context,
-    call: &F,
+    call: &Calling<F>,
     w: &mut World,
 ) -> Result<Option<Value>, Halt>
-    requires callable { F.IsAlwaysCallable call.now }
-    ensures { (names : List (List ℕ)) (longest : ℕ) (m : Caller) → Calls F.post call.now m
+    ensures { (names : List (List ℕ)) (longest : ℕ) (m : Caller) → F.keeps call.now m
         → Means (spec.own_call c.now.program.now names longest m (number_of method) span at
         arguments.now (world_of w.old)) result (world_of w.new) }
 {
@@ -204,17 +199,16 @@ pub fn own_call<F: Fn(usize, Vec<Value>, &mut World) -> Result<Option<Value>, Ha
 }
 
 /// `super.m(..)` (JLS 15.12.4.4).
-pub fn super_call<F: Fn(usize, Vec<Value>, &mut World) -> Result<Option<Value>, Halt>>(
+pub fn super_call<F: Enters>(
     method: Option<MethodNo>,
     at: Span,
     arguments: &[Option<Value>],
     span: Span,
     c: &Context,
-    call: &F,
+    call: &Calling<F>,
     w: &mut World,
 ) -> Result<Option<Value>, Halt>
-    requires callable { F.IsAlwaysCallable call.now }
-    ensures { (names : List (List ℕ)) (longest : ℕ) (m : Caller) → Calls F.post call.now m
+    ensures { (names : List (List ℕ)) (longest : ℕ) (m : Caller) → F.keeps call.now m
         → Means (spec.super_call c.now.program.now names longest m (number_of method) span at
         arguments.now (world_of w.old)) result (world_of w.new) }
 {
@@ -256,15 +250,14 @@ fn make(c: &Context, ctor: MethodNo, w: &mut World) -> Result<(), AllocError>
 }
 
 /// The object with default fields, then its constructor; the object is given (JLS 15.9.4).
-fn construct<F: Fn(usize, Vec<Value>, &mut World) -> Result<Option<Value>, Halt>>(
+fn construct<F: Enters>(
     ctor: MethodNo,
     arguments: &[Option<Value>],
     c: &Context,
-    call: &F,
+    call: &Calling<F>,
     w: &mut World,
 ) -> Result<Option<Value>, Halt>
-    requires callable { F.IsAlwaysCallable call.now }
-    ensures { (names : List (List ℕ)) (longest : ℕ) (m : Caller) → Calls F.post call.now m
+    ensures { (names : List (List ℕ)) (longest : ℕ) (m : Caller) → F.keeps call.now m
         → Means (spec.constructed c.now.program.now names longest m ctor.0
         (ops.all_there arguments.now) (world_of w.old)) result (world_of w.new) }
 {
@@ -276,20 +269,19 @@ fn construct<F: Fn(usize, Vec<Value>, &mut World) -> Result<Option<Value>, Halt>
     let Ok(()) = make(c, ctor, w) else {
         return Err(Halt::OutOfMemory);
     };
-    call(ctor.0 as usize, values, w)?;
+    call.enter(ctor.0 as usize, values, w)?;
     Ok(Some(Value::at(place)))
 }
 
 /// `new` (JLS 15.9.4).
-pub fn create<F: Fn(usize, Vec<Value>, &mut World) -> Result<Option<Value>, Halt>>(
+pub fn create<F: Enters>(
     ctor: Option<MethodNo>,
     arguments: &[Option<Value>],
     c: &Context,
-    call: &F,
+    call: &Calling<F>,
     w: &mut World,
 ) -> Result<Option<Value>, Halt>
-    requires callable { F.IsAlwaysCallable call.now }
-    ensures { (names : List (List ℕ)) (longest : ℕ) (m : Caller) → Calls F.post call.now m
+    ensures { (names : List (List ℕ)) (longest : ℕ) (m : Caller) → F.keeps call.now m
         → Means (spec.created c.now.program.now names longest m (number_of ctor) arguments.now
         (world_of w.old)) result (world_of w.new) }
 {
@@ -300,18 +292,17 @@ pub fn create<F: Fn(usize, Vec<Value>, &mut World) -> Result<Option<Value>, Halt
 }
 
 /// A call with a dot after its receiver and arguments: a method of an object, or an operation of class String (JLS 15.12).
-pub fn call_behind<F: Fn(usize, Vec<Value>, &mut World) -> Result<Option<Value>, Halt>>(
+pub fn call_behind<F: Enters>(
     named: Callee,
     receiver: &Option<Value>,
     at: Span,
     arguments: &[Option<Value>],
     span: Span,
     c: &Context,
-    call: &F,
+    call: &Calling<F>,
     w: &mut World,
 ) -> Result<Option<Value>, Halt>
-    requires callable { F.IsAlwaysCallable call.now }
-    ensures { (names : List (List ℕ)) (m : Caller) → Calls F.post call.now m
+    ensures { (names : List (List ℕ)) (m : Caller) → F.keeps call.now m
         → Means (called_behind c.now.program.now names m (callee_of named) span at receiver.now
         arguments.now (world_of w.old)) result (world_of w.new) }
 {

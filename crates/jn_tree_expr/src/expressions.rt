@@ -13,12 +13,12 @@ ghost use Rattle.jn_meaning.specs.Worlds.{Has, got, then_do};
 ghost use Rattle.jn_places.specs.Placed.{PlacedNewArray, PlacedOwnCall, PlacedPostfix, PlacedPrefix, PlacedSuperCall};
 ghost use Rattle.jn_places.specs.PlacedView.{placed_view, placed_views};
 ghost use Rattle.jn_points.specs.Members.{constructor_of};
-ghost use Rattle.jn_index.specs.Sizes.{Few};
 ghost use Rattle.jn_tree_world.specs.Outcomes.{Means, MeansAs};
 ghost use Rattle.jn_tree_world.specs.Worlds.{items_of, place_of, world_of};
 ghost use Rattle.jn_tree_expr.specs.Forms.{assigns_by, assigns_simply, calculates, chooses, is_dotted};
-ghost use Rattle.jn_tree_expr.specs.Meaning.{Calls, all_in, meant_in, read_at};
+ghost use Rattle.jn_tree_expr.specs.Meaning.{all_in, meant_in, read_at};
 
+use crate::calling::{Calling, Enters};
 use crate::calls::{call_behind, call_static, create, list_values, own_call, super_call};
 use crate::forms::{is_not, null_holds, operand_span};
 use crate::names::{place_meant, place_of_object};
@@ -41,16 +41,14 @@ use jn_trees::{ElementType, Expr, Identifier, Names, Step};
 
 /// An expression's value; none of a void call (JLS 15).
 #[cycle(evaluating)]
-pub fn value<F: Fn(usize, Vec<Value>, &mut World) -> Result<Option<Value>, Halt>>(
+pub fn value<F: Enters>(
     tree: &Expr,
     c: &Context,
     names: &Names,
-    call: &F,
+    call: &Calling<F>,
     w: &mut World,
 ) -> Result<Option<Value>, Halt>
-    requires few { Few c.now.program.now }
-    requires callable { F.IsAlwaysCallable call.now }
-    ensures { (m : Caller) → Calls F.post call.now m
+    ensures { (m : Caller) → F.keeps call.now m
         → Means ((meant_in c.now names.now m (placed_view tree.now)).value (world_of w.old)) result (world_of w.new) }
 {
     match tree {
@@ -130,16 +128,14 @@ pub fn value<F: Fn(usize, Vec<Value>, &mut World) -> Result<Option<Value>, Halt>
 
 /// Operands from left to right (JLS 15.7.4).
 #[cycle(evaluating)]
-pub fn evaluated<F: Fn(usize, Vec<Value>, &mut World) -> Result<Option<Value>, Halt>>(
+pub fn evaluated<F: Enters>(
     trees: &[Expr],
     c: &Context,
     names: &Names,
-    call: &F,
+    call: &Calling<F>,
     w: &mut World,
 ) -> Result<Vec<Option<Value>>, Halt>
-    requires few { Few c.now.program.now }
-    requires callable { F.IsAlwaysCallable call.now }
-    ensures { (m : Caller) → Calls F.post call.now m
+    ensures { (m : Caller) → F.keeps call.now m
         → MeansAs items_of (all_in c.now names.now m (placed_views trees.now) (world_of w.old)) result
         (world_of w.new) }
 {
@@ -156,16 +152,14 @@ pub fn evaluated<F: Fn(usize, Vec<Value>, &mut World) -> Result<Option<Value>, H
 
 /// What stands at the place that the tree names: an identifier, a field or an element.
 #[cycle(evaluating)]
-fn read<F: Fn(usize, Vec<Value>, &mut World) -> Result<Option<Value>, Halt>>(
+fn read<F: Enters>(
     tree: &Expr,
     c: &Context,
     names: &Names,
-    call: &F,
+    call: &Calling<F>,
     w: &mut World,
 ) -> Result<Option<Value>, Halt>
-    requires few { Few c.now.program.now }
-    requires callable { F.IsAlwaysCallable call.now }
-    ensures { (m : Caller) → Calls F.post call.now m
+    ensures { (m : Caller) → F.keeps call.now m
         → Means (read_at c.now names.now m (placed_view tree.now) (world_of w.old)) result
         (world_of w.new) }
 {
@@ -175,16 +169,14 @@ fn read<F: Fn(usize, Vec<Value>, &mut World) -> Result<Option<Value>, Halt>>(
 
 /// The place that an expression names, with its object, array and index evaluated; what can't be assigned has none.
 #[cycle(evaluating)]
-fn place<F: Fn(usize, Vec<Value>, &mut World) -> Result<Option<Value>, Halt>>(
+fn place<F: Enters>(
     tree: &Expr,
     c: &Context,
     names: &Names,
-    call: &F,
+    call: &Calling<F>,
     w: &mut World,
 ) -> Result<Place, Halt>
-    requires few { Few c.now.program.now }
-    requires callable { F.IsAlwaysCallable call.now }
-    ensures { (m : Caller) → Calls F.post call.now m
+    ensures { (m : Caller) → F.keeps call.now m
         → MeansAs place_of ((meant_in c.now names.now m (placed_view tree.now)).place (world_of w.old)) result (world_of w.new) }
 {
     match tree {
@@ -210,17 +202,15 @@ fn place<F: Fn(usize, Vec<Value>, &mut World) -> Result<Option<Value>, Halt>>(
 
 /// A call with a dot (JLS 15.12).
 #[cycle(evaluating)]
-fn dotted_call<F: Fn(usize, Vec<Value>, &mut World) -> Result<Option<Value>, Halt>>(
+fn dotted_call<F: Enters>(
     tree: &Expr,
     c: &Context,
     names: &Names,
-    call: &F,
+    call: &Calling<F>,
     w: &mut World,
 ) -> Result<Option<Value>, Halt>
-    requires few { Few c.now.program.now }
-    requires callable { F.IsAlwaysCallable call.now }
     requires dotted { is_dotted (placed_view tree.now) ≡ true }
-    ensures { (m : Caller) → Calls F.post call.now m
+    ensures { (m : Caller) → F.keeps call.now m
         → Means ((meant_in c.now names.now m (placed_view tree.now)).value (world_of w.old)) result (world_of w.new) }
 {
     match tree {
@@ -259,18 +249,16 @@ fn dotted_call<F: Fn(usize, Vec<Value>, &mut World) -> Result<Option<Value>, Hal
 
 /// A call by a method's name alone (JLS 15.12).
 #[cycle(evaluating)]
-fn call_own<F: Fn(usize, Vec<Value>, &mut World) -> Result<Option<Value>, Halt>>(
+fn call_own<F: Enters>(
     arguments: &[Expr],
     name: Identifier,
     span: Span,
     c: &Context,
     names: &Names,
-    call: &F,
+    call: &Calling<F>,
     w: &mut World,
 ) -> Result<Option<Value>, Halt>
-    requires few { Few c.now.program.now }
-    requires callable { F.IsAlwaysCallable call.now }
-    ensures { (m : Caller) → Calls F.post call.now m
+    ensures { (m : Caller) → F.keeps call.now m
         → Means ((meant_in c.now names.now m (PlacedOwnCall name (placed_views arguments.now) span)).value (world_of w.old)) result (world_of w.new) }
 {
     let values = evaluated(arguments, c, names, call, w)?;
@@ -280,18 +268,16 @@ fn call_own<F: Fn(usize, Vec<Value>, &mut World) -> Result<Option<Value>, Halt>>
 
 /// `super.m(..)` (JLS 15.12).
 #[cycle(evaluating)]
-fn call_super<F: Fn(usize, Vec<Value>, &mut World) -> Result<Option<Value>, Halt>>(
+fn call_super<F: Enters>(
     arguments: &[Expr],
     name: Identifier,
     span: Span,
     c: &Context,
     names: &Names,
-    call: &F,
+    call: &Calling<F>,
     w: &mut World,
 ) -> Result<Option<Value>, Halt>
-    requires few { Few c.now.program.now }
-    requires callable { F.IsAlwaysCallable call.now }
-    ensures { (m : Caller) → Calls F.post call.now m
+    ensures { (m : Caller) → F.keeps call.now m
         → Means ((meant_in c.now names.now m (PlacedSuperCall name (placed_views arguments.now) span)).value (world_of w.old)) result (world_of w.new) }
 {
     let values = evaluated(arguments, c, names, call, w)?;
@@ -301,17 +287,15 @@ fn call_super<F: Fn(usize, Vec<Value>, &mut World) -> Result<Option<Value>, Halt
 
 /// A new object (JLS 15.9.4).
 #[cycle(evaluating)]
-fn make<F: Fn(usize, Vec<Value>, &mut World) -> Result<Option<Value>, Halt>>(
+fn make<F: Enters>(
     arguments: &[Expr],
     class: NameNo,
     c: &Context,
     names: &Names,
-    call: &F,
+    call: &Calling<F>,
     w: &mut World,
 ) -> Result<Option<Value>, Halt>
-    requires few { Few c.now.program.now }
-    requires callable { F.IsAlwaysCallable call.now }
-    ensures { (m : Caller) → Calls F.post call.now m
+    ensures { (m : Caller) → F.keeps call.now m
         → Means (then_do (all_in c.now names.now m (placed_views arguments.now) (world_of w.old)) (spec.created c.now.program.now names.now usual_limits.longest m (constructor_of c.now.program.now (or_zero (class_named c.now.program.now class.0)) (count (placed_views arguments.now))))) result (world_of w.new) }
 {
     let values = evaluated(arguments, c, names, call, w)?;
@@ -327,18 +311,16 @@ fn make<F: Fn(usize, Vec<Value>, &mut World) -> Result<Option<Value>, Halt>>(
 
 /// A new array of a length (JLS 15.10.2).
 #[cycle(evaluating)]
-fn make_array_of<F: Fn(usize, Vec<Value>, &mut World) -> Result<Option<Value>, Halt>>(
+fn make_array_of<F: Enters>(
     length: &Expr,
     element: &ElementType,
     span: Span,
     c: &Context,
     names: &Names,
-    call: &F,
+    call: &Calling<F>,
     w: &mut World,
 ) -> Result<Option<Value>, Halt>
-    requires few { Few c.now.program.now }
-    requires callable { F.IsAlwaysCallable call.now }
-    ensures { (m : Caller) → Calls F.post call.now m
+    ensures { (m : Caller) → F.keeps call.now m
         → Means ((meant_in c.now names.now m (PlacedNewArray element.now.annotations.items element.now.base (placed_view length.now) span)).value (world_of w.old)) result (world_of w.new) }
 {
     let size = value(length, c, names, call, w)?;
@@ -348,17 +330,15 @@ fn make_array_of<F: Fn(usize, Vec<Value>, &mut World) -> Result<Option<Value>, H
 
 /// A new array of elements (JLS 10.6).
 #[cycle(evaluating)]
-fn list<F: Fn(usize, Vec<Value>, &mut World) -> Result<Option<Value>, Halt>>(
+fn list<F: Enters>(
     elements: &[Expr],
     element: &ElementType,
     c: &Context,
     names: &Names,
-    call: &F,
+    call: &Calling<F>,
     w: &mut World,
 ) -> Result<Option<Value>, Halt>
-    requires few { Few c.now.program.now }
-    requires callable { F.IsAlwaysCallable call.now }
-    ensures { (m : Caller) → Calls F.post call.now m
+    ensures { (m : Caller) → F.keeps call.now m
         → Means (then_do (all_in c.now names.now m (placed_views elements.now) (world_of w.old)) (λ xs w. array_listed w (array_type c.now.program.now element.now.base element.now.annotations.items) (all_there xs))) result (world_of w.new) }
 {
     let values = evaluated(elements, c, names, call, w)?;
@@ -368,18 +348,16 @@ fn list<F: Fn(usize, Vec<Value>, &mut World) -> Result<Option<Value>, Halt>>(
 
 /// `++` and `--` after (JLS 15.14.2 and 15.14.3).
 #[cycle(evaluating)]
-fn step_behind<F: Fn(usize, Vec<Value>, &mut World) -> Result<Option<Value>, Halt>>(
+fn step_behind<F: Enters>(
     target: &Expr,
     step: Step,
     span: Span,
     c: &Context,
     names: &Names,
-    call: &F,
+    call: &Calling<F>,
     w: &mut World,
 ) -> Result<Option<Value>, Halt>
-    requires few { Few c.now.program.now }
-    requires callable { F.IsAlwaysCallable call.now }
-    ensures { (m : Caller) → Calls F.post call.now m
+    ensures { (m : Caller) → F.keeps call.now m
         → Means ((meant_in c.now names.now m (PlacedPostfix (placed_view target.now) step span)).value (world_of w.old)) result (world_of w.new) }
 {
     let to = place(target, c, names, call, w)?;
@@ -388,18 +366,16 @@ fn step_behind<F: Fn(usize, Vec<Value>, &mut World) -> Result<Option<Value>, Hal
 
 /// `++` and `--` in front (JLS 15.15.1 and 15.15.2).
 #[cycle(evaluating)]
-fn step_before<F: Fn(usize, Vec<Value>, &mut World) -> Result<Option<Value>, Halt>>(
+fn step_before<F: Enters>(
     target: &Expr,
     step: Step,
     span: Span,
     c: &Context,
     names: &Names,
-    call: &F,
+    call: &Calling<F>,
     w: &mut World,
 ) -> Result<Option<Value>, Halt>
-    requires few { Few c.now.program.now }
-    requires callable { F.IsAlwaysCallable call.now }
-    ensures { (m : Caller) → Calls F.post call.now m
+    ensures { (m : Caller) → F.keeps call.now m
         → Means ((meant_in c.now names.now m (PlacedPrefix step (placed_view target.now) span)).value (world_of w.old)) result (world_of w.new) }
 {
     let to = place(target, c, names, call, w)?;
@@ -408,18 +384,16 @@ fn step_before<F: Fn(usize, Vec<Value>, &mut World) -> Result<Option<Value>, Hal
 
 /// `+` and `-` of an operand (JLS 15.15.3 and 15.15.4).
 #[cycle(evaluating)]
-fn sign<F: Fn(usize, Vec<Value>, &mut World) -> Result<Option<Value>, Halt>>(
+fn sign<F: Enters>(
     operand: &Expr,
     negate: bool,
     span: Span,
     c: &Context,
     names: &Names,
-    call: &F,
+    call: &Calling<F>,
     w: &mut World,
 ) -> Result<Option<Value>, Halt>
-    requires few { Few c.now.program.now }
-    requires callable { F.IsAlwaysCallable call.now }
-    ensures { (m : Caller) → Calls F.post call.now m
+    ensures { (m : Caller) → F.keeps call.now m
         → Means (then_do ((meant_in c.now names.now m (placed_view operand.now)).value (world_of w.old)) (λ x w. got span (unary_of negate (prim_of x)) w)) result (world_of w.new) }
 {
     let given = value(operand, c, names, call, w)?;
@@ -428,18 +402,16 @@ fn sign<F: Fn(usize, Vec<Value>, &mut World) -> Result<Option<Value>, Halt>>(
 
 /// A cast (JLS 15.16).
 #[cycle(evaluating)]
-fn cast_to<F: Fn(usize, Vec<Value>, &mut World) -> Result<Option<Value>, Halt>>(
+fn cast_to<F: Enters>(
     operand: &Expr,
     class: NameNo,
     span: Span,
     c: &Context,
     names: &Names,
-    call: &F,
+    call: &Calling<F>,
     w: &mut World,
 ) -> Result<Option<Value>, Halt>
-    requires few { Few c.now.program.now }
-    requires callable { F.IsAlwaysCallable call.now }
-    ensures { (m : Caller) → Calls F.post call.now m
+    ensures { (m : Caller) → F.keeps call.now m
         → Means (then_do ((meant_in c.now names.now m (placed_view operand.now)).value (world_of w.old)) (λ x w. got span (cast_of c.now.program.now w.heap x (or_zero (class_named c.now.program.now class.0))) w)) result (world_of w.new) }
 {
     let given = value(operand, c, names, call, w)?;
@@ -454,17 +426,15 @@ fn cast_to<F: Fn(usize, Vec<Value>, &mut World) -> Result<Option<Value>, Halt>>(
 
 /// A condition as a value.
 #[cycle(evaluating)]
-fn decided<F: Fn(usize, Vec<Value>, &mut World) -> Result<Option<Value>, Halt>>(
+fn decided<F: Enters>(
     tree: &Expr,
     c: &Context,
     names: &Names,
-    call: &F,
+    call: &Calling<F>,
     w: &mut World,
 ) -> Result<Option<Value>, Halt>
-    requires few { Few c.now.program.now }
-    requires callable { F.IsAlwaysCallable call.now }
     requires connective { is_connective (placed_view tree.now) ≡ true }
-    ensures { (m : Caller) → Calls F.post call.now m
+    ensures { (m : Caller) → F.keeps call.now m
         → Means (then_do ((meant_in c.now names.now m (placed_view tree.now)).condition (world_of w.old)) (λ b w. Has (Some (Plain (Truth b))) w)) result (world_of w.new) }
 {
     let holds = connect(tree, c, names, call, w)?;
@@ -473,17 +443,15 @@ fn decided<F: Fn(usize, Vec<Value>, &mut World) -> Result<Option<Value>, Halt>>(
 
 /// Both sides, and what the operator makes of them (JLS 15.17 to 15.21).
 #[cycle(evaluating)]
-fn operate<F: Fn(usize, Vec<Value>, &mut World) -> Result<Option<Value>, Halt>>(
+fn operate<F: Enters>(
     tree: &Expr,
     c: &Context,
     names: &Names,
-    call: &F,
+    call: &Calling<F>,
     w: &mut World,
 ) -> Result<Option<Value>, Halt>
-    requires few { Few c.now.program.now }
-    requires callable { F.IsAlwaysCallable call.now }
     requires calculates { calculates (placed_view tree.now) ≡ true }
-    ensures { (m : Caller) → Calls F.post call.now m
+    ensures { (m : Caller) → F.keeps call.now m
         → Means ((meant_in c.now names.now m (placed_view tree.now)).value (world_of w.old)) result (world_of w.new) }
 {
     match tree {
@@ -511,17 +479,15 @@ fn operate<F: Fn(usize, Vec<Value>, &mut World) -> Result<Option<Value>, Halt>>(
 
 /// `?:` (JLS 15.25).
 #[cycle(evaluating)]
-fn choose<F: Fn(usize, Vec<Value>, &mut World) -> Result<Option<Value>, Halt>>(
+fn choose<F: Enters>(
     tree: &Expr,
     c: &Context,
     names: &Names,
-    call: &F,
+    call: &Calling<F>,
     w: &mut World,
 ) -> Result<Option<Value>, Halt>
-    requires few { Few c.now.program.now }
-    requires callable { F.IsAlwaysCallable call.now }
     requires chooses { chooses (placed_view tree.now) ≡ true }
-    ensures { (m : Caller) → Calls F.post call.now m
+    ensures { (m : Caller) → F.keeps call.now m
         → Means ((meant_in c.now names.now m (placed_view tree.now)).value (world_of w.old)) result (world_of w.new) }
 {
     match tree {
@@ -545,17 +511,15 @@ fn choose<F: Fn(usize, Vec<Value>, &mut World) -> Result<Option<Value>, Halt>>(
 
 /// `=`: the place, the right side, the write (JLS 15.26.1).
 #[cycle(evaluating)]
-fn assign<F: Fn(usize, Vec<Value>, &mut World) -> Result<Option<Value>, Halt>>(
+fn assign<F: Enters>(
     tree: &Expr,
     c: &Context,
     names: &Names,
-    call: &F,
+    call: &Calling<F>,
     w: &mut World,
 ) -> Result<Option<Value>, Halt>
-    requires few { Few c.now.program.now }
-    requires callable { F.IsAlwaysCallable call.now }
     requires assigns { assigns_simply (placed_view tree.now) ≡ true }
-    ensures { (m : Caller) → Calls F.post call.now m
+    ensures { (m : Caller) → F.keeps call.now m
         → Means ((meant_in c.now names.now m (placed_view tree.now)).value (world_of w.old)) result (world_of w.new) }
 {
     match tree {
@@ -575,17 +539,15 @@ fn assign<F: Fn(usize, Vec<Value>, &mut World) -> Result<Option<Value>, Halt>>(
 
 /// A compound assignment: the place, the old value, the right side, the write of what they give (JLS 15.26.2).
 #[cycle(evaluating)]
-fn assign_by<F: Fn(usize, Vec<Value>, &mut World) -> Result<Option<Value>, Halt>>(
+fn assign_by<F: Enters>(
     tree: &Expr,
     c: &Context,
     names: &Names,
-    call: &F,
+    call: &Calling<F>,
     w: &mut World,
 ) -> Result<Option<Value>, Halt>
-    requires few { Few c.now.program.now }
-    requires callable { F.IsAlwaysCallable call.now }
     requires assigns { assigns_by (placed_view tree.now) ≡ true }
-    ensures { (m : Caller) → Calls F.post call.now m
+    ensures { (m : Caller) → F.keeps call.now m
         → Means ((meant_in c.now names.now m (placed_view tree.now)).value (world_of w.old)) result (world_of w.new) }
 {
     match tree {
@@ -616,16 +578,14 @@ fn assign_by<F: Fn(usize, Vec<Value>, &mut World) -> Result<Option<Value>, Halt>
 
 /// Whether an expression holds as a condition.
 #[cycle(evaluating)]
-pub fn condition<F: Fn(usize, Vec<Value>, &mut World) -> Result<Option<Value>, Halt>>(
+pub fn condition<F: Enters>(
     tree: &Expr,
     c: &Context,
     names: &Names,
-    call: &F,
+    call: &Calling<F>,
     w: &mut World,
 ) -> Result<bool, Halt>
-    requires few { Few c.now.program.now }
-    requires callable { F.IsAlwaysCallable call.now }
-    ensures { (m : Caller) → Calls F.post call.now m
+    ensures { (m : Caller) → F.keeps call.now m
         → Means ((meant_in c.now names.now m (placed_view tree.now)).condition (world_of w.old)) result (world_of w.new) }
 {
     if is_tested(tree) {
@@ -641,17 +601,15 @@ pub fn condition<F: Fn(usize, Vec<Value>, &mut World) -> Result<Option<Value>, H
 
 /// Conditions of other conditions (JLS 15.15.6, 15.23 and 15.24), tests for null (JLS 15.21.3) and `instanceof` (JLS 15.20.2).
 #[cycle(evaluating)]
-fn connect<F: Fn(usize, Vec<Value>, &mut World) -> Result<Option<Value>, Halt>>(
+fn connect<F: Enters>(
     tree: &Expr,
     c: &Context,
     names: &Names,
-    call: &F,
+    call: &Calling<F>,
     w: &mut World,
 ) -> Result<bool, Halt>
-    requires few { Few c.now.program.now }
-    requires callable { F.IsAlwaysCallable call.now }
     requires connective { is_connective (placed_view tree.now) ≡ true }
-    ensures { (m : Caller) → Calls F.post call.now m
+    ensures { (m : Caller) → F.keeps call.now m
         → Means ((meant_in c.now names.now m (placed_view tree.now)).condition (world_of w.old)) result (world_of w.new) }
 {
     match tree {

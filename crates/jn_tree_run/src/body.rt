@@ -7,8 +7,6 @@ ghost use Rattle.jn_meaning.specs.Bodies as spec;
 ghost use Rattle.jn_meaning.specs.Expressions.{Caller};
 ghost use Rattle.jn_places.specs.PlacedView.{placed_members, placed_parameters, placed_statements};
 ghost use Rattle.jn_points.specs.Lookup.{ctor_of, method_at};
-ghost use Rattle.jn_index.specs.Sizes.{Few};
-ghost use Rattle.jn_tree_expr.specs.Meaning.{Calls};
 ghost use Rattle.jn_tree_world.specs.Outcomes.{MeansAs};
 ghost use Rattle.jn_tree_world.specs.Worlds.{world_of};
 ghost use Rattle.jn_tree_simple.specs.Standings.{flow_of, onward_of};
@@ -19,6 +17,7 @@ use jn_base::MethodNo;
 use jn_lower_stmt::body::Source;
 use jn_machine::Value;
 use jn_scopes::heads::is_ctor;
+use jn_tree_expr::{Calling, Enters};
 use jn_tree_simple::{Flow, Site, Standing};
 use jn_tree_stmt::execute_all;
 use jn_tree_world::{Halt, World};
@@ -44,19 +43,17 @@ fn begins_with_own(body: &[Stmt]) -> bool
 }
 
 /// A constructor begins with another one's call, then come the initializers, unless that one is of its class (JLS 12.5).
-fn begin<F: Fn(usize, Vec<Value>, &mut World) -> Result<Option<Value>, Halt>>(
+fn begin<F: Enters>(
     source: &Source,
     method: MethodNo,
     b: &Site,
     names: &Names,
-    call: &F,
+    call: &Calling<F>,
     st: &Standing,
     w: &mut World,
 ) -> Result<(), Halt>
-    requires few { Few b.now.program.now }
-    requires callable { F.IsAlwaysCallable call.now }
     requires class { b.now.class.0 ≡ bodies.class b.now.program.now method.0 }
-    ensures { (turns : ℕ) (m : Caller) → Calls F.post call.now m
+    ensures { (turns : ℕ) (m : Caller) → F.keeps call.now m
         → MeansAs onward_of (spec.begins b.now.program.now names.now usual_limits.longest m turns
         method.0 (ctor_of (method_at b.now.program.now method.0)) st.now.scope
         (placed_statements source.now.body.now) (placed_members source.now.members.now)
@@ -73,19 +70,17 @@ fn begin<F: Fn(usize, Vec<Value>, &mut World) -> Result<Option<Value>, Halt>>(
 }
 
 /// What a method's body does, whose loops make at most so many turns.
-pub fn execute<F: Fn(usize, Vec<Value>, &mut World) -> Result<Option<Value>, Halt>>(
+pub fn execute<F: Enters>(
     source: &Source,
     method: MethodNo,
     turns: u64,
     b: &Site,
     names: &Names,
-    call: &F,
+    call: &Calling<F>,
     w: &mut World,
 ) -> Result<Flow, Halt>
-    requires few { Few b.now.program.now }
-    requires callable { F.IsAlwaysCallable call.now }
     requires class { b.now.class.0 ≡ bodies.class b.now.program.now method.0 }
-    ensures { (m : Caller) → Calls F.post call.now m
+    ensures { (m : Caller) → F.keeps call.now m
         → MeansAs flow_of (spec.body b.now.program.now names.now usual_limits.longest m turns
         method.0 (placed_parameters source.now.parameters.now)
         (placed_statements source.now.body.now) (placed_members source.now.members.now)

@@ -1,9 +1,7 @@
 //! Calls within each other: a method's body in a frame of its own (JLS 15.12.4.5).
-ghost use Rattle.std.specs.Prelude.{◌≡◌, ◌<◌, ◌+◌, ◌^◌, None, Some, MatchOption, slice_get};
+ghost use Rattle.std.specs.Prelude.{◌≡◌, None, Some, MatchOption, slice_get};
 ghost use Rattle.jn_lower_stmt.specs.Sources.{source_of as seen_source, sources_of};
 ghost use Rattle.jn_meaning.specs.Expressions.{Caller};
-ghost use Rattle.jn_index.specs.Sizes.{Few};
-ghost use Rattle.jn_tree_expr.specs.Meaning.{Calls};
 ghost use Rattle.jn_tree_world.specs.Outcomes.{Found, Means};
 ghost use Rattle.jn_tree_world.specs.Worlds.{world_of};
 ghost use Rattle.jn_tree_run.specs.Beginning.{entered_in, framed_in, source_in};
@@ -15,6 +13,7 @@ use jn_index::indexed::IndexedProgram;
 use jn_lower_stmt::body::Source;
 use jn_machine::{Value, body_of};
 use jn_scopes::heads::class_of;
+use jn_tree_expr::{Calling, Enters};
 use jn_tree_simple::Site;
 use jn_tree_world::frames::padded;
 use jn_tree_world::{Halt, World};
@@ -64,17 +63,15 @@ fn source_of<'a>(run: &'a Run, method: usize) -> Option<&'a Source<'a>>
 }
 
 /// The method's body with these values as its first locals. The caller's locals come back after it.
-fn in_frame<F: Fn(usize, Vec<Value>, &mut World) -> Result<Option<Value>, Halt>>(
+fn in_frame<F: Enters>(
     run: &Run,
     turns: u64,
     method: usize,
     values: Vec<Value>,
-    call: &F,
+    call: &Calling<F>,
     w: &mut World,
 ) -> Result<Option<Value>, Halt>
-    requires few { Few run.now.program.now }
-    requires callable { F.IsAlwaysCallable call.now }
-    ensures { (m : Caller) → Calls F.post call.now m
+    ensures { (m : Caller) → F.keeps call.now m
         → Means (framed_in run.now m turns method values.items (world_of w.old)) result
         (world_of w.new) }
 {
@@ -97,6 +94,24 @@ fn in_frame<F: Fn(usize, Vec<Value>, &mut World) -> Result<Option<Value>, Halt>>
     Ok(given(flow))
 }
 
+/// The same, where calls are made by code that may be called with any arguments.
+fn in_frame_by<F: Enters>(
+    run: &Run,
+    turns: u64,
+    method: usize,
+    values: Vec<Value>,
+    call: F,
+    w: &mut World,
+) -> Result<Option<Value>, Halt>
+    requires { F.callable call }
+    ensures { (m : Caller) → F.keeps call m
+        → Means (framed_in run.now m turns method values.items (world_of w.old)) result
+        (world_of w.new) }
+{
+    let calling = Calling::new(call);
+    in_frame(run, turns, method, values, &calling, w)
+}
+
 /// A method's body in a further frame, unless there are more than the most: that takes a unit of fuel. A loop makes at most so many turns, and
 /// calls within each other are at most as many.
 pub fn enter(
@@ -107,7 +122,6 @@ pub fn enter(
     values: Vec<Value>,
     w: &mut World,
 ) -> Result<Option<Value>, Halt>
-    requires few { Few run.now.program.now }
     ensures { Means (entered_in run.now turns frames method values.items (world_of w.old)) result
         (world_of w.new) }
 {
@@ -119,11 +133,11 @@ pub fn enter(
     }
     w.spend()?;
     let left = turns - 1;
+    let further = frames + 1;
     let call = |method: usize, values: Vec<Value>, w: &mut World| -> Result<Option<Value>, Halt>
-        requires { Few run.now.program.now × (frames + 1 < 2 ^ 64) }
         ensures { Means
-            (entered_in run.entry.now left (frames + 1) method values.items (world_of w.old)) result
+            (entered_in run.entry.now left further method values.items (world_of w.old)) result
             (world_of w.new) }
-    { enter(run, left, frames + 1, method, values, w) };
-    in_frame(run, left, method, values, &call, w)
+    { enter(run, left, further, method, values, w) };
+    in_frame_by(run, left, method, values, call, w)
 }

@@ -9,9 +9,8 @@ ghost use Rattle.jn_meaning.specs.Expressions.{Caller, meant};
 ghost use Rattle.jn_meaning.specs.Operations as ops;
 ghost use Rattle.jn_places.specs.PlacedView.{placed_declarator, placed_declarators, placed_member, placed_members, placed_statements, placed_view, placed_views};
 ghost use Rattle.jn_points.specs.declared.program.Program as program;
-ghost use Rattle.jn_index.specs.Sizes.{Few};
 ghost use Rattle.jn_scopes.specs.Views.{scope_in};
-ghost use Rattle.jn_tree_expr.specs.Meaning.{Calls, number_of};
+ghost use Rattle.jn_tree_expr.specs.Meaning.{number_of};
 ghost use Rattle.jn_tree_world.specs.Outcomes.{Found, Means, MeansAs};
 ghost use Rattle.jn_tree_world.specs.Worlds.{items_in, world_of};
 ghost use Rattle.jn_tree_simple.specs.Standings.{onward_of};
@@ -23,7 +22,7 @@ use jn_scopes::forms::span_of;
 use jn_scopes::heads::is_under_object;
 use jn_scopes::members::{constructor_of, declared_field, is_static_field, parent_or_object};
 use jn_scopes::{Context, Variables};
-use jn_tree_expr::{evaluated, value};
+use jn_tree_expr::{Calling, Enters, evaluated, value};
 use jn_tree_simple::Site;
 use jn_tree_world::frames::all_there;
 use jn_tree_world::place::write_place;
@@ -59,17 +58,16 @@ fn gather(
 }
 
 /// A constructor of the class or its superclass, on `this` (JLS 8.8.7.1).
-fn call_on_this<F: Fn(usize, Vec<Value>, &mut World) -> Result<Option<Value>, Halt>>(
+fn call_on_this<F: Enters>(
     ctor: usize,
     this: Option<Value>,
     arguments: &[Option<Value>],
     alloc: Global,
-    call: &F,
+    call: &Calling<F>,
     w: &mut World,
 ) -> Result<(), Halt>
-    requires callable { F.IsAlwaysCallable call.now }
     ensures { (P : program.Program) (names : List (List ℕ)) (longest turns k : ℕ) (m : Caller)
-        → Calls F.post call.now m
+        → F.keeps call.now m
         → MeansAs onward_of (spec.on_this P names longest m turns k this
         (ops.all_there arguments.now) ctor (world_of w.old)) result (world_of w.new) }
 {
@@ -79,21 +77,20 @@ fn call_on_this<F: Fn(usize, Vec<Value>, &mut World) -> Result<Option<Value>, Ha
     let Some(values) = gather(alloc, object, arguments)? else {
         return Err(Halt::Senseless);
     };
-    call(ctor, values, w)?;
+    call.enter(ctor, values, w)?;
     Ok(())
 }
 
 /// The same of the constructor, where there is one.
-fn call_found<F: Fn(usize, Vec<Value>, &mut World) -> Result<Option<Value>, Halt>>(
+fn call_found<F: Enters>(
     ctor: Option<MethodNo>,
     arguments: &[Option<Value>],
     alloc: Global,
-    call: &F,
+    call: &Calling<F>,
     w: &mut World,
 ) -> Result<(), Halt>
-    requires callable { F.IsAlwaysCallable call.now }
     ensures { (P : program.Program) (names : List (List ℕ)) (longest turns k : ℕ) (m : Caller)
-        → Calls F.post call.now m
+        → F.keeps call.now m
         → MeansAs onward_of (spec.called_ctor P names longest m turns k (number_of ctor)
         arguments.now (world_of w.old)) result (world_of w.new) }
 {
@@ -107,18 +104,16 @@ fn call_found<F: Fn(usize, Vec<Value>, &mut World) -> Result<Option<Value>, Halt
 }
 
 /// `this(..)` or `super(..)`: the arguments, then the constructor (JLS 8.8.7.1).
-fn call_ctor<F: Fn(usize, Vec<Value>, &mut World) -> Result<Option<Value>, Halt>>(
+fn call_ctor<F: Enters>(
     class: ClassNo,
     arguments: &[Expr],
     c: &Context,
     names: &Names,
-    call: &F,
+    call: &Calling<F>,
     w: &mut World,
 ) -> Result<(), Halt>
-    requires few { Few c.now.program.now }
-    requires callable { F.IsAlwaysCallable call.now }
     ensures { (turns k : ℕ) (m : Caller) → c.now.class.0 ≡ source.class c.now.program.now k
-        → Calls F.post call.now m
+        → F.keeps call.now m
         → MeansAs onward_of (spec.ctor_call c.now.program.now names.now usual_limits.longest m turns
         k (scope_in c.now) class.0 (placed_views arguments.now) (world_of w.old)) result
         (world_of w.new) }
@@ -129,16 +124,14 @@ fn call_ctor<F: Fn(usize, Vec<Value>, &mut World) -> Result<Option<Value>, Halt>
 }
 
 /// The call of the superclass's constructor that isn't written; a class right under Object has none (JLS 8.8.7).
-fn call_unwritten<F: Fn(usize, Vec<Value>, &mut World) -> Result<Option<Value>, Halt>>(
+fn call_unwritten<F: Enters>(
     c: &Context,
     names: &Names,
-    call: &F,
+    call: &Calling<F>,
     w: &mut World,
 ) -> Result<(), Halt>
-    requires few { Few c.now.program.now }
-    requires callable { F.IsAlwaysCallable call.now }
     ensures { (turns k : ℕ) (m : Caller) → c.now.class.0 ≡ source.class c.now.program.now k
-        → Calls F.post call.now m
+        → F.keeps call.now m
         → MeansAs onward_of (spec.unwritten_call c.now.program.now names.now usual_limits.longest m
         turns k (scope_in c.now) (world_of w.old)) result (world_of w.new) }
 {
@@ -150,17 +143,15 @@ fn call_unwritten<F: Fn(usize, Vec<Value>, &mut World) -> Result<Option<Value>, 
 }
 
 /// The call of another constructor with which a constructor begins (JLS 8.8.7).
-pub fn construct<F: Fn(usize, Vec<Value>, &mut World) -> Result<Option<Value>, Halt>>(
+pub fn construct<F: Enters>(
     body: &[Stmt],
     c: &Context,
     names: &Names,
-    call: &F,
+    call: &Calling<F>,
     w: &mut World,
 ) -> Result<(), Halt>
-    requires few { Few c.now.program.now }
-    requires callable { F.IsAlwaysCallable call.now }
     ensures { (turns k : ℕ) (m : Caller) → c.now.class.0 ≡ source.class c.now.program.now k
-        → Calls F.post call.now m
+        → F.keeps call.now m
         → MeansAs onward_of (spec.construction c.now.program.now names.now usual_limits.longest m
         turns k (scope_in c.now) (placed_statements body.now) (world_of w.old)) result
         (world_of w.new) }
@@ -179,16 +170,14 @@ pub fn construct<F: Fn(usize, Vec<Value>, &mut World) -> Result<Option<Value>, H
 }
 
 /// The value of a field's initializer, in which no local is in scope (JLS 8.3.2).
-fn first_value<F: Fn(usize, Vec<Value>, &mut World) -> Result<Option<Value>, Halt>>(
+fn first_value<F: Enters>(
     tree: &Expr,
     b: &Site,
     names: &Names,
-    call: &F,
+    call: &Calling<F>,
     w: &mut World,
 ) -> Result<Option<Value>, Halt>
-    requires few { Few b.now.program.now }
-    requires callable { F.IsAlwaysCallable call.now }
-    ensures { (m : Caller) → Calls F.post call.now m
+    ensures { (m : Caller) → F.keeps call.now m
         → Means ((meant b.now.program.now names.now usual_limits.longest m b.now.class.0 []
         (placed_view tree.now)).value (world_of w.old)) result (world_of w.new) }
 {
@@ -198,19 +187,17 @@ fn first_value<F: Fn(usize, Vec<Value>, &mut World) -> Result<Option<Value>, Hal
 }
 
 /// A field that isn't static gets its first value.
-fn write_first<F: Fn(usize, Vec<Value>, &mut World) -> Result<Option<Value>, Halt>>(
+fn write_first<F: Enters>(
     tree: &Expr,
     field: FieldNo,
     name: Span,
     b: &Site,
     names: &Names,
-    call: &F,
+    call: &Calling<F>,
     w: &mut World,
 ) -> Result<(), Halt>
-    requires few { Few b.now.program.now }
-    requires callable { F.IsAlwaysCallable call.now }
     ensures { (turns k : ℕ) (m : Caller) → b.now.class.0 ≡ source.class b.now.program.now k
-        → Calls F.post call.now m
+        → F.keeps call.now m
         → MeansAs onward_of (spec.writes_field b.now.program.now names.now usual_limits.longest m
         turns k (Some field.0) name (placed_view tree.now) (world_of w.old)) result
         (world_of w.new) }
@@ -232,17 +219,15 @@ fn write_first<F: Fn(usize, Vec<Value>, &mut World) -> Result<Option<Value>, Hal
 }
 
 /// The initializer of a field, where it has one (JLS 8.3.2).
-fn initialize<F: Fn(usize, Vec<Value>, &mut World) -> Result<Option<Value>, Halt>>(
+fn initialize<F: Enters>(
     tree: &Declarator,
     b: &Site,
     names: &Names,
-    call: &F,
+    call: &Calling<F>,
     w: &mut World,
 ) -> Result<(), Halt>
-    requires few { Few b.now.program.now }
-    requires callable { F.IsAlwaysCallable call.now }
     ensures { (turns k : ℕ) (m : Caller) → b.now.class.0 ≡ source.class b.now.program.now k
-        → Calls F.post call.now m
+        → F.keeps call.now m
         → MeansAs onward_of (spec.initializes b.now.program.now names.now usual_limits.longest m
         turns k (placed_declarator tree.now).name.span (placed_declarator tree.now).name.name.0
         (placed_declarator tree.now).value (world_of w.old)) result (world_of w.new) }
@@ -256,17 +241,15 @@ fn initialize<F: Fn(usize, Vec<Value>, &mut World) -> Result<Option<Value>, Halt
     }
 }
 
-fn initialize_all<F: Fn(usize, Vec<Value>, &mut World) -> Result<Option<Value>, Halt>>(
+fn initialize_all<F: Enters>(
     trees: &[Declarator],
     b: &Site,
     names: &Names,
-    call: &F,
+    call: &Calling<F>,
     w: &mut World,
 ) -> Result<(), Halt>
-    requires few { Few b.now.program.now }
-    requires callable { F.IsAlwaysCallable call.now }
     ensures { (turns k : ℕ) (m : Caller) → b.now.class.0 ≡ source.class b.now.program.now k
-        → Calls F.post call.now m
+        → F.keeps call.now m
         → MeansAs onward_of (spec.initializers_of b.now.program.now names.now usual_limits.longest m
         turns k (placed_declarators trees.now) (world_of w.old)) result (world_of w.new) }
 {
@@ -277,17 +260,15 @@ fn initialize_all<F: Fn(usize, Vec<Value>, &mut World) -> Result<Option<Value>, 
 }
 
 /// The initializers that a member has.
-fn initialize_member<F: Fn(usize, Vec<Value>, &mut World) -> Result<Option<Value>, Halt>>(
+fn initialize_member<F: Enters>(
     tree: &Member,
     b: &Site,
     names: &Names,
-    call: &F,
+    call: &Calling<F>,
     w: &mut World,
 ) -> Result<(), Halt>
-    requires few { Few b.now.program.now }
-    requires callable { F.IsAlwaysCallable call.now }
     ensures { (turns k : ℕ) (m : Caller) → b.now.class.0 ≡ source.class b.now.program.now k
-        → Calls F.post call.now m
+        → F.keeps call.now m
         → MeansAs onward_of (spec.initializers_of b.now.program.now names.now usual_limits.longest m
         turns k (declarators_of (placed_member tree.now)) (world_of w.old)) result
         (world_of w.new) }
@@ -303,17 +284,15 @@ fn initialize_member<F: Fn(usize, Vec<Value>, &mut World) -> Result<Option<Value
 }
 
 /// The initializers of a class's fields, in textual order (JLS 12.5).
-pub fn initializers<F: Fn(usize, Vec<Value>, &mut World) -> Result<Option<Value>, Halt>>(
+pub fn initializers<F: Enters>(
     trees: &[Member],
     b: &Site,
     names: &Names,
-    call: &F,
+    call: &Calling<F>,
     w: &mut World,
 ) -> Result<(), Halt>
-    requires few { Few b.now.program.now }
-    requires callable { F.IsAlwaysCallable call.now }
     ensures { (turns k : ℕ) (m : Caller) → b.now.class.0 ≡ source.class b.now.program.now k
-        → Calls F.post call.now m
+        → F.keeps call.now m
         → MeansAs onward_of (spec.initializers b.now.program.now names.now usual_limits.longest m
         turns k (placed_members trees.now) (world_of w.old)) result (world_of w.new) }
 {

@@ -6,7 +6,6 @@ ghost use Rattle.jn_meaning.specs.Bodies as spec;
 ghost use Rattle.jn_outside.specs.Causes.{Rose};
 ghost use Rattle.jn_places.specs.PlacedView.{placed_file};
 ghost use Rattle.jn_program_law.specs.FileSources.{sources};
-ghost use Rattle.jn_index.specs.Sizes.{Few};
 ghost use Rattle.jn_meaning.specs.Worlds as worlds;
 ghost use Rattle.jn_tree_world.specs.Outcomes.{Means};
 ghost use Rattle.jn_tree_run.specs.Ends.{Answers, EndsAs, IsTold};
@@ -63,7 +62,6 @@ fn finish(answer: Result<Option<Value>, Halt>, text: Vec<u8>) -> Result<Told, Al
 
 /// Runs a main with these words and so many units of fuel.
 fn play(run: &Run, main: MethodNo, words: &[Text], fuel: u64) -> Result<Told, AllocError>
-    requires few { Few run.now.program.now }
     requires meant { (told_in run.now main.0 words.now fuel).end ≡ spec.Stuck → ⊥ }
     ensures { IfOk result
         (λ told. IsTold (told_in run.now main.0 words.now fuel) told.end told.text.items) }
@@ -119,7 +117,6 @@ pub fn tree_run<K: Sink>(
 {
     accepted_files_are_safe_by_trees();
     let program = base.indexed();
-    program.facts();
     let Ok(all) = sources_of_files(alloc, trees) else {
         return TreeEnd::OutOfMemory;
     };

@@ -4,8 +4,6 @@ ghost use Rattle.jn_heap.specs.Values.{Number, Plain, usual_limits};
 ghost use Rattle.jn_meaning.specs.Expressions.{Caller};
 ghost use Rattle.jn_meaning.specs.Statements as spec;
 ghost use Rattle.jn_places.specs.PlacedView.{placed_view};
-ghost use Rattle.jn_index.specs.Sizes.{Few};
-ghost use Rattle.jn_tree_expr.specs.Meaning.{Calls};
 ghost use Rattle.jn_tree_world.specs.Outcomes.{Means};
 ghost use Rattle.jn_tree_world.specs.Worlds.{world_of};
 ghost use Rattle.jn_tree_simple.specs.Doing.{IsHidden, each_holds, each_moves, each_takes};
@@ -16,6 +14,7 @@ use crate::standing::{Site, Standing};
 use jn_base::{RegNo, Span};
 use jn_machine::{Primitive, Value};
 use jn_points::Operator;
+use jn_tree_expr::{Calling, Enters};
 use jn_tree_world::operators::binary;
 use jn_tree_world::place::read_place;
 use jn_tree_world::values::truth;
@@ -39,21 +38,19 @@ fn number(number: i32) -> Option<Value>
 }
 
 /// The array, evaluated once, and index 0.
-pub fn begin<F: Fn(usize, Vec<Value>, &mut World) -> Result<Option<Value>, Halt>>(
+pub fn begin<F: Enters>(
     array: &Expr,
     first: RegNo,
     index: RegNo,
     b: &Site,
     names: &Names,
-    call: &F,
+    call: &Calling<F>,
     st: &Standing,
     w: &mut World,
 ) -> Result<Option<Value>, Halt>
-    requires few { Few b.now.program.now }
-    requires callable { F.IsAlwaysCallable call.now }
     requires first { first.0 ≡ st.now.count }
     requires index { index.0 ≡ st.now.count + 1 }
-    ensures { (turns : ℕ) (m : Caller) → Calls F.post call.now m
+    ensures { (turns : ℕ) (m : Caller) → F.keeps call.now m
         → Means (spec.each_begun b.now.program.now names.now usual_limits.longest m turns
         b.now.class.0 (standing_of st.now) (placed_view array.now) (world_of w.old)) result
         (world_of w.new) }

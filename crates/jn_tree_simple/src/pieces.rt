@@ -4,10 +4,8 @@ ghost use Rattle.jn_meaning.specs.Expressions.{Caller};
 ghost use Rattle.jn_meaning.specs.Statements as spec;
 ghost use Rattle.jn_places.specs.PlacedView.{placed_declarator, placed_declarators, placed_init, placed_local, placed_optional, placed_statement, placed_view, placed_views};
 ghost use Rattle.jn_lower_stmt.specs.Views.{rows_of};
-ghost use Rattle.jn_index.specs.Sizes.{Few};
 ghost use Rattle.jn_scopes.specs.Views.{bound_of};
 ghost use Rattle.jn_heap.specs.Values.{usual_limits};
-ghost use Rattle.jn_tree_expr.specs.Meaning.{Calls};
 ghost use Rattle.jn_tree_world.specs.Outcomes.{Found, Means, MeansAs};
 ghost use Rattle.jn_tree_world.specs.Worlds.{world_of};
 ghost use Rattle.jn_tree_simple.specs.Doing.{begins_at, declares_at, effects_at, holds_at, value_at};
@@ -20,22 +18,20 @@ use jn_lower_stmt::state::LocalKind;
 use jn_lower_stmt::types::kind_of;
 use jn_machine::Value;
 use jn_scopes::types::has_final;
-use jn_tree_expr::{condition, value};
+use jn_tree_expr::{Calling, Enters, condition, value};
 use jn_tree_world::{Halt, World};
 use jn_trees::{Declarator, Expr, ForInit, LocalDeclaration, Names, Stmt};
 
 /// An expression's value (JLS 15).
-pub fn value_in<F: Fn(usize, Vec<Value>, &mut World) -> Result<Option<Value>, Halt>>(
+pub fn value_in<F: Enters>(
     tree: &Expr,
     b: &Site,
     names: &Names,
-    call: &F,
+    call: &Calling<F>,
     st: &Standing,
     w: &mut World,
 ) -> Result<Option<Value>, Halt>
-    requires few { Few b.now.program.now }
-    requires callable { F.IsAlwaysCallable call.now }
-    ensures means { (turns : ℕ) (m : Caller) → Calls F.post call.now m
+    ensures means { (turns : ℕ) (m : Caller) → F.keeps call.now m
         → Means (value_at b.now names.now m turns (standing_of st.now) (placed_view tree.now) (world_of w.old))
         result (world_of w.new) }
 {
@@ -43,17 +39,15 @@ pub fn value_in<F: Fn(usize, Vec<Value>, &mut World) -> Result<Option<Value>, Ha
 }
 
 /// Whether an expression holds as a condition.
-pub fn holds_in<F: Fn(usize, Vec<Value>, &mut World) -> Result<Option<Value>, Halt>>(
+pub fn holds_in<F: Enters>(
     tree: &Expr,
     b: &Site,
     names: &Names,
-    call: &F,
+    call: &Calling<F>,
     st: &Standing,
     w: &mut World,
 ) -> Result<bool, Halt>
-    requires few { Few b.now.program.now }
-    requires callable { F.IsAlwaysCallable call.now }
-    ensures means { (turns : ℕ) (m : Caller) → Calls F.post call.now m
+    ensures means { (turns : ℕ) (m : Caller) → F.keeps call.now m
         → Means (holds_at b.now names.now m turns (standing_of st.now) (placed_view tree.now) (world_of w.old))
         result (world_of w.new) }
 {
@@ -61,17 +55,15 @@ pub fn holds_in<F: Fn(usize, Vec<Value>, &mut World) -> Result<Option<Value>, Ha
 }
 
 /// An expression for its effects (JLS 14.8).
-pub fn effect<F: Fn(usize, Vec<Value>, &mut World) -> Result<Option<Value>, Halt>>(
+pub fn effect<F: Enters>(
     tree: &Expr,
     b: &Site,
     names: &Names,
-    call: &F,
+    call: &Calling<F>,
     st: &Standing,
     w: &mut World,
 ) -> Result<(), Halt>
-    requires few { Few b.now.program.now }
-    requires callable { F.IsAlwaysCallable call.now }
-    ensures means { (turns : ℕ) (m : Caller) → Calls F.post call.now m
+    ensures means { (turns : ℕ) (m : Caller) → F.keeps call.now m
         → MeansAs onward_of (spec.effect b.now.program.now names.now usual_limits.longest m turns b.now.class.0
         (standing_of st.now) (placed_view tree.now) (world_of w.old)) result (world_of w.new) }
 {
@@ -80,17 +72,15 @@ pub fn effect<F: Fn(usize, Vec<Value>, &mut World) -> Result<Option<Value>, Halt
 }
 
 /// Expressions for their effects, one after the other (JLS 14.14.1).
-pub fn effects<F: Fn(usize, Vec<Value>, &mut World) -> Result<Option<Value>, Halt>>(
+pub fn effects<F: Enters>(
     trees: &[Expr],
     b: &Site,
     names: &Names,
-    call: &F,
+    call: &Calling<F>,
     st: &Standing,
     w: &mut World,
 ) -> Result<(), Halt>
-    requires few { Few b.now.program.now }
-    requires callable { F.IsAlwaysCallable call.now }
-    ensures means { (turns : ℕ) (m : Caller) → Calls F.post call.now m
+    ensures means { (turns : ℕ) (m : Caller) → F.keeps call.now m
         → MeansAs onward_of (effects_at b.now names.now m turns (standing_of st.now) (placed_views trees.now)
         (world_of w.old)) result (world_of w.new) }
 {
@@ -101,17 +91,15 @@ pub fn effects<F: Fn(usize, Vec<Value>, &mut World) -> Result<Option<Value>, Hal
 }
 
 /// `return` (JLS 14.17).
-pub fn returned<F: Fn(usize, Vec<Value>, &mut World) -> Result<Option<Value>, Halt>>(
+pub fn returned<F: Enters>(
     tree: &Option<Box<Expr>>,
     b: &Site,
     names: &Names,
-    call: &F,
+    call: &Calling<F>,
     st: &Standing,
     w: &mut World,
 ) -> Result<Flow, Halt>
-    requires few { Few b.now.program.now }
-    requires callable { F.IsAlwaysCallable call.now }
-    ensures means { (turns : ℕ) (m : Caller) → Calls F.post call.now m
+    ensures means { (turns : ℕ) (m : Caller) → F.keeps call.now m
         → MeansAs flow_of (spec.returned b.now.program.now names.now usual_limits.longest m turns
         b.now.class.0 (standing_of st.now) (placed_optional tree.now) (world_of w.old)) result
         (world_of w.new) }
@@ -126,18 +114,16 @@ pub fn returned<F: Fn(usize, Vec<Value>, &mut World) -> Result<Option<Value>, Ha
 }
 
 /// A local gets its first value, where it has one (JLS 14.4.2).
-pub fn initialize<F: Fn(usize, Vec<Value>, &mut World) -> Result<Option<Value>, Halt>>(
+pub fn initialize<F: Enters>(
     tree: &Option<Box<Expr>>,
     local: RegNo,
     b: &Site,
     names: &Names,
-    call: &F,
+    call: &Calling<F>,
     st: &Standing,
     w: &mut World,
 ) -> Result<(), Halt>
-    requires few { Few b.now.program.now }
-    requires callable { F.IsAlwaysCallable call.now }
-    ensures means { (turns : ℕ) (m : Caller) → Calls F.post call.now m
+    ensures means { (turns : ℕ) (m : Caller) → F.keeps call.now m
         → MeansAs onward_of (spec.initialized b.now.program.now names.now usual_limits.longest m turns
         b.now.class.0 (standing_of st.now) local.0 (placed_optional tree.now) (world_of w.old)) result
         (world_of w.new) }
@@ -187,7 +173,6 @@ fn declare_names(
 
 /// The names of a declaration come into scope.
 fn declare_all(tree: &LocalDeclaration, b: &Site, st: &mut Standing) -> Result<(), Halt>
-    requires few { Few b.now.program.now }
     ensures { Found (λ u. standing_of st.new
         ≡ spec.behind_declaration b.now.program.now (standing_of st.old) (placed_local tree.now))
         result }
@@ -199,19 +184,17 @@ fn declare_all(tree: &LocalDeclaration, b: &Site, st: &mut Standing) -> Result<(
 }
 
 /// One declared local: its name, then its first value (JLS 14.4.2).
-fn declarator<F: Fn(usize, Vec<Value>, &mut World) -> Result<Option<Value>, Halt>>(
+fn declarator<F: Enters>(
     tree: &Declarator,
     kind: LocalKind,
     is_final: bool,
     b: &Site,
     names: &Names,
-    call: &F,
+    call: &Calling<F>,
     st: &mut Standing,
     w: &mut World,
 ) -> Result<(), Halt>
-    requires few { Few b.now.program.now }
-    requires callable { F.IsAlwaysCallable call.now }
-    ensures means { (turns : ℕ) (m : Caller) → Calls F.post call.now m
+    ensures means { (turns : ℕ) (m : Caller) → F.keeps call.now m
         → MeansAs onward_of (spec.initialized b.now.program.now names.now usual_limits.longest m turns
         b.now.class.0 (spec.behind_declarator kind.base (bound_of kind.bound) is_final
         (rows_of kind.fault) (standing_of st.old) (placed_declarator tree.now))
@@ -226,19 +209,17 @@ fn declarator<F: Fn(usize, Vec<Value>, &mut World) -> Result<Option<Value>, Halt
 }
 
 /// Declared locals, one after the other.
-fn declarators<F: Fn(usize, Vec<Value>, &mut World) -> Result<Option<Value>, Halt>>(
+fn declarators<F: Enters>(
     trees: &[Declarator],
     kind: LocalKind,
     is_final: bool,
     b: &Site,
     names: &Names,
-    call: &F,
+    call: &Calling<F>,
     st: &mut Standing,
     w: &mut World,
 ) -> Result<(), Halt>
-    requires few { Few b.now.program.now }
-    requires callable { F.IsAlwaysCallable call.now }
-    ensures means { (turns : ℕ) (m : Caller) → Calls F.post call.now m
+    ensures means { (turns : ℕ) (m : Caller) → F.keeps call.now m
         → MeansAs onward_of (spec.declarators b.now.program.now names.now usual_limits.longest m turns
         b.now.class.0 kind.base (bound_of kind.bound) is_final (rows_of kind.fault)
         (standing_of st.old) (placed_declarators trees.now) (world_of w.old)) result (world_of w.new) }
@@ -253,17 +234,15 @@ fn declarators<F: Fn(usize, Vec<Value>, &mut World) -> Result<Option<Value>, Hal
 }
 
 /// A declaration of locals (JLS 14.4.2).
-pub fn declaration<F: Fn(usize, Vec<Value>, &mut World) -> Result<Option<Value>, Halt>>(
+pub fn declaration<F: Enters>(
     tree: &LocalDeclaration,
     b: &Site,
     names: &Names,
-    call: &F,
+    call: &Calling<F>,
     st: &mut Standing,
     w: &mut World,
 ) -> Result<(), Halt>
-    requires few { Few b.now.program.now }
-    requires callable { F.IsAlwaysCallable call.now }
-    ensures means { (turns : ℕ) (m : Caller) → Calls F.post call.now m
+    ensures means { (turns : ℕ) (m : Caller) → F.keeps call.now m
         → MeansAs onward_of (declares_at b.now names.now m turns (standing_of st.old)
         (placed_local tree.now) (world_of w.old)) result (world_of w.new) }
     ensures behind { OnOk result (standing_of st.new
@@ -276,17 +255,15 @@ pub fn declaration<F: Fn(usize, Vec<Value>, &mut World) -> Result<Option<Value>,
 }
 
 /// What a `for` begins with (JLS 14.14.1).
-pub fn begin<F: Fn(usize, Vec<Value>, &mut World) -> Result<Option<Value>, Halt>>(
+pub fn begin<F: Enters>(
     tree: &ForInit,
     b: &Site,
     names: &Names,
-    call: &F,
+    call: &Calling<F>,
     st: &mut Standing,
     w: &mut World,
 ) -> Result<(), Halt>
-    requires few { Few b.now.program.now }
-    requires callable { F.IsAlwaysCallable call.now }
-    ensures means { (turns : ℕ) (m : Caller) → Calls F.post call.now m
+    ensures means { (turns : ℕ) (m : Caller) → F.keeps call.now m
         → MeansAs onward_of (begins_at b.now names.now m turns (standing_of st.old)
         (placed_init tree.now) (world_of w.old)) result (world_of w.new) }
     ensures behind { OnOk result (standing_of st.new
@@ -300,7 +277,6 @@ pub fn begin<F: Fn(usize, Vec<Value>, &mut World) -> Result<Option<Value>, Halt>
 
 /// A statement that isn't done: the names of a declaration come into scope, and its locals are counted.
 pub fn pass_over(tree: &Stmt, b: &Site, st: &mut Standing) -> Result<(), Halt>
-    requires few { Few b.now.program.now }
     ensures { Found (λ u. standing_of st.new
         ≡ spec.behind b.now.program.now (standing_of st.old) (placed_statement tree.now)) result }
 {

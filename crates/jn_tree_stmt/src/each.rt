@@ -5,8 +5,6 @@ ghost use Rattle.jn_meaning.specs.Expressions.{Caller, operand_span};
 ghost use Rattle.jn_meaning.specs.Statements as spec;
 ghost use Rattle.jn_meaning.specs.Worlds.{Has, then_do};
 ghost use Rattle.jn_places.specs.PlacedView.{placed_parameter, placed_view};
-ghost use Rattle.jn_index.specs.Sizes.{Few};
-ghost use Rattle.jn_tree_expr.specs.Meaning.{Calls};
 ghost use Rattle.jn_tree_world.specs.Outcomes.{Found, Goes, Means, MeansAs};
 ghost use Rattle.jn_tree_world.specs.Worlds.{world_of};
 ghost use Rattle.jn_tree_simple.specs.Doing.{IsHidden, each_holds, each_moves};
@@ -16,9 +14,9 @@ ghost use Rattle.jn_tree_stmt.specs.Leaving.{left_of};
 ghost use Rattle.jn_tree_stmt.specs.Running.{behind_variable};
 
 use jn_lower_stmt::types::kind_of;
-use jn_machine::Value;
 use jn_scopes::types::has_final;
 use jn_tree_expr::forms::operand_span;
+use jn_tree_expr::{Calling, Enters};
 use jn_tree_simple::each::{Hidden, begin, holds, move_on};
 use jn_tree_simple::standing::local_at;
 use jn_tree_simple::{Flow, Site, Standing};
@@ -43,7 +41,6 @@ fn hidden(array: &Expr, st: &Standing) -> Result<Hidden, Halt>
 
 /// The variable comes into scope, after two locals without names.
 fn declare_variable(variable: &Parameter, b: &Site, st: &mut Standing) -> Result<(), Halt>
-    requires few { Few b.now.program.now }
     ensures { Found (λ u. standing_of st.new ≡ behind_variable b.now.program.now (standing_of st.old)
         (placed_parameter variable.now)) result }
 {
@@ -54,18 +51,16 @@ fn declare_variable(variable: &Parameter, b: &Site, st: &mut Standing) -> Result
 }
 
 /// The array, evaluated once, and index 0; the variable comes into scope.
-pub fn start<F: Fn(usize, Vec<Value>, &mut World) -> Result<Option<Value>, Halt>>(
+pub fn start<F: Enters>(
     variable: &Parameter,
     array: &Expr,
     b: &Site,
     names: &Names,
-    call: &F,
+    call: &Calling<F>,
     st: &mut Standing,
     w: &mut World,
 ) -> Result<Hidden, Halt>
-    requires few { Few b.now.program.now }
-    requires callable { F.IsAlwaysCallable call.now }
-    ensures means { (turns : ℕ) (m : Caller) → Calls F.post call.now m
+    ensures means { (turns : ℕ) (m : Caller) → F.keeps call.now m
         → Goes (then_do (spec.each_begun b.now.program.now names.now usual_limits.longest m turns
         b.now.class.0 (standing_of st.old) (placed_view array.now) (world_of w.old))
         (λ z w. Has tt w)) result (world_of w.new) }

@@ -4,32 +4,28 @@ ghost use Rattle.jn_meaning.specs.Expressions.{Caller};
 ghost use Rattle.jn_meaning.specs.Statements as spec;
 ghost use Rattle.jn_heap.specs.Values.{usual_limits};
 ghost use Rattle.jn_places.specs.PlacedView.{placed_local, placed_view};
-ghost use Rattle.jn_index.specs.Sizes.{Few};
-ghost use Rattle.jn_tree_expr.specs.Meaning.{Calls};
 ghost use Rattle.jn_tree_world.specs.Outcomes.{MeansAs};
 ghost use Rattle.jn_tree_world.specs.Worlds.{world_of};
 ghost use Rattle.jn_tree_simple.specs.Doing.{declares_at};
 ghost use Rattle.jn_tree_simple.specs.Standings.{flow_of, standing_of};
 ghost use Rattle.jn_tree_stmt.specs.Running.{Grown};
 
-use jn_machine::Value;
+use jn_tree_expr::{Calling, Enters};
 use jn_tree_simple::pieces::{declaration, effect};
 use jn_tree_simple::{Flow, Site, Standing};
 use jn_tree_world::{Halt, World};
 use jn_trees::{Expr, LocalDeclaration, Names};
 
 /// An expression for its effects (JLS 14.8).
-pub fn expression<F: Fn(usize, Vec<Value>, &mut World) -> Result<Option<Value>, Halt>>(
+pub fn expression<F: Enters>(
     tree: &Expr,
     b: &Site,
     names: &Names,
-    call: &F,
+    call: &Calling<F>,
     st: &Standing,
     w: &mut World,
 ) -> Result<Flow, Halt>
-    requires few { Few b.now.program.now }
-    requires callable { F.IsAlwaysCallable call.now }
-    ensures means { (turns : ℕ) (m : Caller) → Calls F.post call.now m
+    ensures means { (turns : ℕ) (m : Caller) → F.keeps call.now m
         → MeansAs flow_of (spec.effect b.now.program.now names.now usual_limits.longest m turns
         b.now.class.0 (standing_of st.now) (placed_view tree.now) (world_of w.old)) result
         (world_of w.new) }
@@ -39,17 +35,15 @@ pub fn expression<F: Fn(usize, Vec<Value>, &mut World) -> Result<Option<Value>, 
 }
 
 /// A declaration of locals (JLS 14.4.2).
-pub fn declare<F: Fn(usize, Vec<Value>, &mut World) -> Result<Option<Value>, Halt>>(
+pub fn declare<F: Enters>(
     tree: &LocalDeclaration,
     b: &Site,
     names: &Names,
-    call: &F,
+    call: &Calling<F>,
     st: &mut Standing,
     w: &mut World,
 ) -> Result<Flow, Halt>
-    requires few { Few b.now.program.now }
-    requires callable { F.IsAlwaysCallable call.now }
-    ensures means { (turns : ℕ) (m : Caller) → Calls F.post call.now m
+    ensures means { (turns : ℕ) (m : Caller) → F.keeps call.now m
         → MeansAs flow_of (declares_at b.now names.now m turns (standing_of st.old)
         (placed_local tree.now) (world_of w.old)) result (world_of w.new) }
     ensures scope { OnOk result (Grown st.old.scope st.new.scope) }

@@ -4,9 +4,7 @@ ghost use Rattle.jn_meaning.specs.Expressions.{Caller};
 ghost use Rattle.jn_meaning.specs.Statements as spec;
 ghost use Rattle.jn_places.specs.Placed.{PlacedFor, PlacedForEach, PlacedIf};
 ghost use Rattle.jn_places.specs.PlacedView.{placed_init, placed_optional, placed_statement, placed_statements, placed_type_use, placed_view, placed_views};
-ghost use Rattle.jn_index.specs.Sizes.{Few};
 ghost use Rattle.jn_base.specs.declared.place.Span.{Span};
-ghost use Rattle.jn_tree_expr.specs.Meaning.{Calls};
 ghost use Rattle.jn_tree_world.specs.Outcomes.{MeansAs};
 ghost use Rattle.jn_tree_world.specs.Worlds.{world_of};
 ghost use Rattle.jn_tree_simple.specs.Doing.{IsHidden, each_holds, each_moves, each_takes, effects_at, holds_at};
@@ -18,7 +16,7 @@ ghost use Rattle.jn_meaning.specs.Worlds.{then_do};
 use crate::each;
 use crate::simple::{declare, expression};
 use crate::turns::{conclude, last_test, leaves, stops_turn, tested, update};
-use jn_machine::Value;
+use jn_tree_expr::{Calling, Enters};
 use jn_tree_simple::each::{Hidden, take};
 use jn_tree_simple::pieces::{begin, holds_in, pass_over, returned};
 use jn_tree_simple::{Flow, Site, Standing};
@@ -27,18 +25,16 @@ use jn_trees::{Expr, ForHead, Names, Parameter, Stmt};
 
 /// Statements one after the other (JLS 14.2). A loop makes at most so many turns.
 #[cycle(executing)]
-pub fn execute_all<F: Fn(usize, Vec<Value>, &mut World) -> Result<Option<Value>, Halt>>(
+pub fn execute_all<F: Enters>(
     trees: &[Stmt],
     b: &Site,
     turns: u64,
     names: &Names,
-    call: &F,
+    call: &Calling<F>,
     st: &mut Standing,
     w: &mut World,
 ) -> Result<Flow, Halt>
-    requires few { Few b.now.program.now }
-    requires callable { F.IsAlwaysCallable call.now }
-    ensures means { (m : Caller) → Calls F.post call.now m
+    ensures means { (m : Caller) → F.keeps call.now m
         → MeansAs flow_of (all_run_at b.now names.now m turns (standing_of st.old)
         (placed_statements trees.now) (world_of w.old)) result (world_of w.new) }
     ensures scope { OnOk result (Grown st.old.scope st.new.scope) }
@@ -54,18 +50,16 @@ pub fn execute_all<F: Fn(usize, Vec<Value>, &mut World) -> Result<Option<Value>,
 
 /// A statement. After it its names are out of scope, but for those of a declaration (JLS 6.3).
 #[cycle(executing)]
-fn execute<F: Fn(usize, Vec<Value>, &mut World) -> Result<Option<Value>, Halt>>(
+fn execute<F: Enters>(
     tree: &Stmt,
     b: &Site,
     turns: u64,
     names: &Names,
-    call: &F,
+    call: &Calling<F>,
     st: &mut Standing,
     w: &mut World,
 ) -> Result<Flow, Halt>
-    requires few { Few b.now.program.now }
-    requires callable { F.IsAlwaysCallable call.now }
-    ensures means { (m : Caller) → Calls F.post call.now m
+    ensures means { (m : Caller) → F.keeps call.now m
         → MeansAs flow_of (runs_at b.now names.now m turns (standing_of st.old)
         (placed_statement tree.now) (world_of w.old)) result (world_of w.new) }
     ensures behind { OnOk result (standing_of st.new
@@ -80,18 +74,16 @@ fn execute<F: Fn(usize, Vec<Value>, &mut World) -> Result<Option<Value>, Halt>>(
 
 /// What a statement does; names that it declares may stay in scope.
 #[cycle(executing)]
-fn inside<F: Fn(usize, Vec<Value>, &mut World) -> Result<Option<Value>, Halt>>(
+fn inside<F: Enters>(
     tree: &Stmt,
     b: &Site,
     turns: u64,
     names: &Names,
-    call: &F,
+    call: &Calling<F>,
     st: &mut Standing,
     w: &mut World,
 ) -> Result<Flow, Halt>
-    requires few { Few b.now.program.now }
-    requires callable { F.IsAlwaysCallable call.now }
-    ensures means { (m : Caller) → Calls F.post call.now m
+    ensures means { (m : Caller) → F.keeps call.now m
         → MeansAs flow_of (runs_at b.now names.now m turns (standing_of st.old)
         (placed_statement tree.now) (world_of w.old)) result (world_of w.new) }
     ensures scope { OnOk result (Grown st.old.scope st.new.scope) }
@@ -136,19 +128,17 @@ fn inside<F: Fn(usize, Vec<Value>, &mut World) -> Result<Option<Value>, Halt>>(
 
 /// `if` without `else` (JLS 14.9.1).
 #[cycle(executing)]
-fn if_then<F: Fn(usize, Vec<Value>, &mut World) -> Result<Option<Value>, Halt>>(
+fn if_then<F: Enters>(
     then: &Stmt,
     condition: &Expr,
     b: &Site,
     turns: u64,
     names: &Names,
-    call: &F,
+    call: &Calling<F>,
     st: &mut Standing,
     w: &mut World,
 ) -> Result<Flow, Halt>
-    requires few { Few b.now.program.now }
-    requires callable { F.IsAlwaysCallable call.now }
-    ensures means { (m : Caller) → Calls F.post call.now m
+    ensures means { (m : Caller) → F.keeps call.now m
         → (span : Span) → MeansAs flow_of (runs_at b.now names.now m turns (standing_of st.old)
         (PlacedIf (placed_view condition.now) (placed_statement then.now) span) (world_of w.old))
         result (world_of w.new) }
@@ -163,19 +153,17 @@ fn if_then<F: Fn(usize, Vec<Value>, &mut World) -> Result<Option<Value>, Halt>>(
 
 /// `if` with `else` (JLS 14.9.2).
 #[cycle(executing)]
-fn if_else<F: Fn(usize, Vec<Value>, &mut World) -> Result<Option<Value>, Halt>>(
+fn if_else<F: Enters>(
     tree: &Stmt,
     b: &Site,
     turns: u64,
     names: &Names,
-    call: &F,
+    call: &Calling<F>,
     st: &mut Standing,
     w: &mut World,
 ) -> Result<Flow, Halt>
-    requires few { Few b.now.program.now }
-    requires callable { F.IsAlwaysCallable call.now }
     requires branches { has_else (placed_statement tree.now) ≡ true }
-    ensures means { (m : Caller) → Calls F.post call.now m
+    ensures means { (m : Caller) → F.keeps call.now m
         → MeansAs flow_of (runs_at b.now names.now m turns (standing_of st.old)
         (placed_statement tree.now) (world_of w.old)) result (world_of w.new) }
     ensures scope { OnOk result (Grown st.old.scope st.new.scope) }
@@ -199,19 +187,17 @@ fn if_else<F: Fn(usize, Vec<Value>, &mut World) -> Result<Option<Value>, Halt>>(
 
 /// The body of a loop once, and the update, unless the loop is left.
 #[cycle(executing)]
-fn turn<F: Fn(usize, Vec<Value>, &mut World) -> Result<Option<Value>, Halt>>(
+fn turn<F: Enters>(
     body: &Stmt,
     updates: &[Expr],
     b: &Site,
     turns: u64,
     names: &Names,
-    call: &F,
+    call: &Calling<F>,
     st: &mut Standing,
     w: &mut World,
 ) -> Result<Option<Flow>, Halt>
-    requires few { Few b.now.program.now }
-    requires callable { F.IsAlwaysCallable call.now }
-    ensures means { (m : Caller) → Calls F.post call.now m
+    ensures means { (m : Caller) → F.keeps call.now m
         → MeansAs left_of (round (runs_at b.now names.now m turns (standing_of st.old)
         (placed_statement body.now))
         (effects_at b.now names.now m turns
@@ -228,20 +214,18 @@ fn turn<F: Fn(usize, Vec<Value>, &mut World) -> Result<Option<Value>, Halt>>(
 
 /// A `while`, or a `for` with a condition (JLS 14.12 and 14.14.1).
 #[cycle(executing)]
-fn repeat<F: Fn(usize, Vec<Value>, &mut World) -> Result<Option<Value>, Halt>>(
+fn repeat<F: Enters>(
     body: &Stmt,
     condition: &Expr,
     updates: &[Expr],
     b: &Site,
     turns: u64,
     names: &Names,
-    call: &F,
+    call: &Calling<F>,
     st: &mut Standing,
     w: &mut World,
 ) -> Result<Flow, Halt>
-    requires few { Few b.now.program.now }
-    requires callable { F.IsAlwaysCallable call.now }
-    ensures means { (m : Caller) → Calls F.post call.now m
+    ensures means { (m : Caller) → F.keeps call.now m
         → MeansAs flow_of (spec.repeated turns
         (holds_at b.now names.now m turns (standing_of st.old) (placed_view condition.now))
         (runs_at b.now names.now m turns (standing_of st.old) (placed_statement body.now))
@@ -263,19 +247,17 @@ fn repeat<F: Fn(usize, Vec<Value>, &mut World) -> Result<Option<Value>, Halt>>(
 
 /// A `for` without condition (JLS 14.14.1).
 #[cycle(executing)]
-fn repeat_endless<F: Fn(usize, Vec<Value>, &mut World) -> Result<Option<Value>, Halt>>(
+fn repeat_endless<F: Enters>(
     body: &Stmt,
     updates: &[Expr],
     b: &Site,
     turns: u64,
     names: &Names,
-    call: &F,
+    call: &Calling<F>,
     st: &mut Standing,
     w: &mut World,
 ) -> Result<Flow, Halt>
-    requires few { Few b.now.program.now }
-    requires callable { F.IsAlwaysCallable call.now }
-    ensures means { (m : Caller) → Calls F.post call.now m
+    ensures means { (m : Caller) → F.keeps call.now m
         → MeansAs flow_of (spec.endless turns
         (runs_at b.now names.now m turns (standing_of st.old) (placed_statement body.now))
         (effects_at b.now names.now m turns
@@ -297,19 +279,17 @@ fn repeat_endless<F: Fn(usize, Vec<Value>, &mut World) -> Result<Option<Value>, 
 
 /// A `for` (JLS 14.14.1).
 #[cycle(executing)]
-fn repeat_for<F: Fn(usize, Vec<Value>, &mut World) -> Result<Option<Value>, Halt>>(
+fn repeat_for<F: Enters>(
     body: &Stmt,
     head: &ForHead,
     b: &Site,
     turns: u64,
     names: &Names,
-    call: &F,
+    call: &Calling<F>,
     st: &mut Standing,
     w: &mut World,
 ) -> Result<Flow, Halt>
-    requires few { Few b.now.program.now }
-    requires callable { F.IsAlwaysCallable call.now }
-    ensures means { (m : Caller) → Calls F.post call.now m
+    ensures means { (m : Caller) → F.keeps call.now m
         → (span : Span) → MeansAs flow_of (runs_at b.now names.now m turns (standing_of st.old)
         (PlacedFor (placed_init head.now.init) (placed_optional head.now.condition)
         (placed_views head.now.update.items) (placed_statement body.now) span) (world_of w.old))
@@ -325,19 +305,17 @@ fn repeat_for<F: Fn(usize, Vec<Value>, &mut World) -> Result<Option<Value>, Halt
 
 /// The body of a `do` once, and its condition, unless the loop is left.
 #[cycle(executing)]
-fn turn_do<F: Fn(usize, Vec<Value>, &mut World) -> Result<Option<Value>, Halt>>(
+fn turn_do<F: Enters>(
     body: &Stmt,
     condition: &Expr,
     b: &Site,
     turns: u64,
     names: &Names,
-    call: &F,
+    call: &Calling<F>,
     st: &mut Standing,
     w: &mut World,
 ) -> Result<Option<Flow>, Halt>
-    requires few { Few b.now.program.now }
-    requires callable { F.IsAlwaysCallable call.now }
-    ensures means { (m : Caller) → Calls F.post call.now m
+    ensures means { (m : Caller) → F.keeps call.now m
         → MeansAs left_of (done_round
         (runs_at b.now names.now m turns (standing_of st.old) (placed_statement body.now))
         (holds_at b.now names.now m turns
@@ -354,19 +332,17 @@ fn turn_do<F: Fn(usize, Vec<Value>, &mut World) -> Result<Option<Value>, Halt>>(
 
 /// The body of a `do` after the last turn, and its condition, where no unit of fuel is left.
 #[cycle(executing)]
-fn end_do<F: Fn(usize, Vec<Value>, &mut World) -> Result<Option<Value>, Halt>>(
+fn end_do<F: Enters>(
     body: &Stmt,
     condition: &Expr,
     b: &Site,
     turns: u64,
     names: &Names,
-    call: &F,
+    call: &Calling<F>,
     st: &mut Standing,
     w: &mut World,
 ) -> Result<Flow, Halt>
-    requires few { Few b.now.program.now }
-    requires callable { F.IsAlwaysCallable call.now }
-    ensures means { (m : Caller) → Calls F.post call.now m
+    ensures means { (m : Caller) → F.keeps call.now m
         → MeansAs flow_of (spec.done_while 0
         (runs_at b.now names.now m turns (standing_of st.old) (placed_statement body.now))
         (holds_at b.now names.now m turns
@@ -387,19 +363,17 @@ fn end_do<F: Fn(usize, Vec<Value>, &mut World) -> Result<Option<Value>, Halt>>(
 
 /// A `do` (JLS 14.13).
 #[cycle(executing)]
-fn repeat_do<F: Fn(usize, Vec<Value>, &mut World) -> Result<Option<Value>, Halt>>(
+fn repeat_do<F: Enters>(
     body: &Stmt,
     condition: &Expr,
     b: &Site,
     turns: u64,
     names: &Names,
-    call: &F,
+    call: &Calling<F>,
     st: &mut Standing,
     w: &mut World,
 ) -> Result<Flow, Halt>
-    requires few { Few b.now.program.now }
-    requires callable { F.IsAlwaysCallable call.now }
-    ensures means { (m : Caller) → Calls F.post call.now m
+    ensures means { (m : Caller) → F.keeps call.now m
         → MeansAs flow_of (spec.done_while turns
         (runs_at b.now names.now m turns (standing_of st.old) (placed_statement body.now))
         (holds_at b.now names.now m turns
@@ -417,19 +391,17 @@ fn repeat_do<F: Fn(usize, Vec<Value>, &mut World) -> Result<Option<Value>, Halt>
 
 /// The element in the variable, the body once, and the next index, unless the loop is left.
 #[cycle(executing)]
-fn turn_each<F: Fn(usize, Vec<Value>, &mut World) -> Result<Option<Value>, Halt>>(
+fn turn_each<F: Enters>(
     body: &Stmt,
     locals: Hidden,
     b: &Site,
     turns: u64,
     names: &Names,
-    call: &F,
+    call: &Calling<F>,
     st: &mut Standing,
     w: &mut World,
 ) -> Result<Option<Flow>, Halt>
-    requires few { Few b.now.program.now }
-    requires callable { F.IsAlwaysCallable call.now }
-    ensures means { (m : Caller) → Calls F.post call.now m
+    ensures means { (m : Caller) → F.keeps call.now m
         → (r : ℕ) → IsHidden locals r → MeansAs left_of (round
         (λ w. then_do (each_takes b.now names.now m turns locals.at r w)
         (λ x w. runs_at b.now names.now m turns (standing_of st.old) (placed_statement body.now) w))
@@ -447,19 +419,17 @@ fn turn_each<F: Fn(usize, Vec<Value>, &mut World) -> Result<Option<Value>, Halt>
 
 /// The turns of a `for` over an array, the three locals of which are there.
 #[cycle(executing)]
-fn repeat_each<F: Fn(usize, Vec<Value>, &mut World) -> Result<Option<Value>, Halt>>(
+fn repeat_each<F: Enters>(
     body: &Stmt,
     locals: Hidden,
     b: &Site,
     turns: u64,
     names: &Names,
-    call: &F,
+    call: &Calling<F>,
     st: &mut Standing,
     w: &mut World,
 ) -> Result<Flow, Halt>
-    requires few { Few b.now.program.now }
-    requires callable { F.IsAlwaysCallable call.now }
-    ensures means { (m : Caller) → Calls F.post call.now m
+    ensures means { (m : Caller) → F.keeps call.now m
         → (r : ℕ) → IsHidden locals r → MeansAs flow_of (spec.repeated turns
         (each_holds b.now names.now m turns locals.at r)
         (λ w. then_do (each_takes b.now names.now m turns locals.at r w)
@@ -481,20 +451,18 @@ fn repeat_each<F: Fn(usize, Vec<Value>, &mut World) -> Result<Option<Value>, Hal
 
 /// A `for` over an array (JLS 14.14.2).
 #[cycle(executing)]
-fn for_each<F: Fn(usize, Vec<Value>, &mut World) -> Result<Option<Value>, Halt>>(
+fn for_each<F: Enters>(
     body: &Stmt,
     variable: &Parameter,
     array: &Expr,
     b: &Site,
     turns: u64,
     names: &Names,
-    call: &F,
+    call: &Calling<F>,
     st: &mut Standing,
     w: &mut World,
 ) -> Result<Flow, Halt>
-    requires few { Few b.now.program.now }
-    requires callable { F.IsAlwaysCallable call.now }
-    ensures means { (m : Caller) → Calls F.post call.now m
+    ensures means { (m : Caller) → F.keeps call.now m
         → (span : Span) → MeansAs flow_of (runs_at b.now names.now m turns (standing_of st.old)
         (PlacedForEach variable.now.modifiers.items (placed_type_use variable.now.type_use)
         variable.now.name (placed_view array.now) (placed_statement body.now) span) (world_of w.old))

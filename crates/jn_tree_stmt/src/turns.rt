@@ -2,8 +2,6 @@
 ghost use Rattle.std.specs.Prelude.{◌≡◌, ℕ};
 ghost use Rattle.jn_meaning.specs.Expressions.{Caller};
 ghost use Rattle.jn_places.specs.PlacedView.{placed_view, placed_views};
-ghost use Rattle.jn_index.specs.Sizes.{Few};
-ghost use Rattle.jn_tree_expr.specs.Meaning.{Calls};
 ghost use Rattle.jn_tree_world.specs.Outcomes.{Means, MeansAs};
 ghost use Rattle.jn_tree_world.specs.Worlds.{world_of};
 ghost use Rattle.jn_tree_simple.specs.Doing.{effects_at, holds_at};
@@ -11,7 +9,7 @@ ghost use Rattle.jn_tree_simple.specs.Standings.{flow_of, standing_of};
 ghost use Rattle.jn_tree_stmt.specs.Leaving as spec;
 ghost use Rattle.jn_tree_stmt.specs.Leaving.{left_of};
 
-use jn_machine::Value;
+use jn_tree_expr::{Calling, Enters};
 use jn_tree_simple::pieces::{effects, holds_in};
 use jn_tree_simple::{Flow, Site, Standing};
 use jn_tree_world::{Halt, World};
@@ -41,18 +39,16 @@ pub fn leaves(flow: Flow) -> Option<Flow>
 }
 
 /// The update of a `for`, unless the loop is left (JLS 14.14.1.2).
-pub fn update<F: Fn(usize, Vec<Value>, &mut World) -> Result<Option<Value>, Halt>>(
+pub fn update<F: Enters>(
     left: Option<Flow>,
     trees: &[Expr],
     b: &Site,
     names: &Names,
-    call: &F,
+    call: &Calling<F>,
     st: &Standing,
     w: &mut World,
 ) -> Result<Option<Flow>, Halt>
-    requires few { Few b.now.program.now }
-    requires callable { F.IsAlwaysCallable call.now }
-    ensures means { (turns : ℕ) (m : Caller) → Calls F.post call.now m
+    ensures means { (turns : ℕ) (m : Caller) → F.keeps call.now m
         → MeansAs left_of (spec.updated (left_of left) (world_of w.old)
         (effects_at b.now names.now m turns (standing_of st.now) (placed_views trees.now)))
         result (world_of w.new) }
@@ -65,17 +61,15 @@ pub fn update<F: Fn(usize, Vec<Value>, &mut World) -> Result<Option<Value>, Halt
 }
 
 /// Whether the condition of a loop holds, and the unit of fuel that it takes.
-pub fn tested<F: Fn(usize, Vec<Value>, &mut World) -> Result<Option<Value>, Halt>>(
+pub fn tested<F: Enters>(
     tree: &Expr,
     b: &Site,
     names: &Names,
-    call: &F,
+    call: &Calling<F>,
     st: &Standing,
     w: &mut World,
 ) -> Result<bool, Halt>
-    requires few { Few b.now.program.now }
-    requires callable { F.IsAlwaysCallable call.now }
-    ensures means { (turns : ℕ) (m : Caller) → Calls F.post call.now m
+    ensures means { (turns : ℕ) (m : Caller) → F.keeps call.now m
         → Means (spec.tested (holds_at b.now names.now m turns (standing_of st.now)
         (placed_view tree.now)) (world_of w.old)) result (world_of w.new) }
 {
@@ -85,18 +79,16 @@ pub fn tested<F: Fn(usize, Vec<Value>, &mut World) -> Result<Option<Value>, Halt
 }
 
 /// The condition of a `do`, unless the loop is left: where it doesn't hold the loop is over (JLS 14.13).
-pub fn conclude<F: Fn(usize, Vec<Value>, &mut World) -> Result<Option<Value>, Halt>>(
+pub fn conclude<F: Enters>(
     left: Option<Flow>,
     tree: &Expr,
     b: &Site,
     names: &Names,
-    call: &F,
+    call: &Calling<F>,
     st: &Standing,
     w: &mut World,
 ) -> Result<Option<Flow>, Halt>
-    requires few { Few b.now.program.now }
-    requires callable { F.IsAlwaysCallable call.now }
-    ensures means { (turns : ℕ) (m : Caller) → Calls F.post call.now m
+    ensures means { (turns : ℕ) (m : Caller) → F.keeps call.now m
         → MeansAs left_of (spec.concluded (left_of left) (world_of w.old)
         (holds_at b.now names.now m turns (standing_of st.now) (placed_view tree.now)))
         result (world_of w.new) }
@@ -112,17 +104,15 @@ pub fn conclude<F: Fn(usize, Vec<Value>, &mut World) -> Result<Option<Value>, Ha
 }
 
 /// The condition of a loop after the last turn, where no unit of fuel is left.
-pub fn last_test<F: Fn(usize, Vec<Value>, &mut World) -> Result<Option<Value>, Halt>>(
+pub fn last_test<F: Enters>(
     tree: &Expr,
     b: &Site,
     names: &Names,
-    call: &F,
+    call: &Calling<F>,
     st: &Standing,
     w: &mut World,
 ) -> Result<Flow, Halt>
-    requires few { Few b.now.program.now }
-    requires callable { F.IsAlwaysCallable call.now }
-    ensures means { (turns : ℕ) (m : Caller) → Calls F.post call.now m
+    ensures means { (turns : ℕ) (m : Caller) → F.keeps call.now m
         → MeansAs flow_of (spec.last_test (holds_at b.now names.now m turns (standing_of st.now)
         (placed_view tree.now)) (world_of w.old)) result (world_of w.new) }
 {

@@ -15,6 +15,7 @@ use jn_index::indexed::IndexedProgram;
 use jn_note_words::Note;
 use jn_program::lowering::lower;
 use jn_program_law::law::more_members_are_inferred;
+use jn_sharing::Workers;
 use jn_trees::{FileTree, Names};
 use std::alloc::Global;
 use std::thread::Threads;
@@ -56,7 +57,7 @@ fn lowered_notes<R: Threads + Sync>(
         (λ notes. notes ≡ spec.type_notes names.now (map placed_file trees.now)) }
 {
     more_members_are_inferred();
-    match lower(rt, alloc, table, trees, WORKERS) {
+    match lower(rt, alloc, table, trees, Workers::of(WORKERS)) {
         Ok(program) => return program_notes(alloc, names, &program),
         Err(Fail::Refused(rows)) => {
             drop(rows);

@@ -1,13 +1,9 @@
 //! Turns of facts that are kept from read to read.
-ghost use Rattle.std.specs.Prelude.{◌≡◌, ◌<◌, [], List, MatchOption, IfOk, OnOk, None, Some, length, slice_index_or};
-ghost use Rattle.jn_quals.specs.Qualifier.{Qualifier};
-ghost use Rattle.jn_points.specs.declared.program.Program.{Program};
-ghost use Rattle.jn_env.specs.Order.{Table};
+ghost use Rattle.std.specs.Prelude.{◌≡◌, ◌<◌, ℕ, [], MatchOption, IfOk, length, slice_index_or};
 ghost use Rattle.jn_env.specs.Sized.{Sized};
 ghost use Rattle.jn_tables_law.specs.Inferable.{IsInferable};
-ghost use Rattle.jn_voided.specs.declared.search.Turned.{Turned};
-ghost use Rattle.jn_voided.specs.Kept.{AreTurned, numbers_of, turned_of};
-ghost use Rattle.jn_voided.specs.Searched.{IsTurned, voided_before};
+ghost use Rattle.jn_voided.specs.Kept.{numbers_of, scene_by};
+ghost use Rattle.jn_voided.specs.Searched.{IsTurned};
 ghost use Rattle.jn_voided.specs.Voided.{IsFound};
 
 use crate::search::{Turned, Voided, find_turned};
@@ -33,75 +29,97 @@ fn numbers_of(body: BodyNo, key: FieldKey) -> Key
     ((body.0, key.reg()), key.field())
 }
 
-/// The turns of some facts on fields in bodies.
+/// A program that can be inferred, a signature, and a table for each body, with the turns of some facts on fields in bodies. Contracts see all but the
+/// turns.
 #[derive(Drop)]
-pub struct Voids {
+pub struct Voids<'a> {
+    program: &'a Program,
+    sig: &'a Sig,
+    tables: &'a [FlowTable],
     turned: HashMap<Key, Turned>,
 }
 
-impl Model for Voids {
-    ghost use Rattle.std.specs.Prelude.{List};
-    ghost use Rattle.jn_voided.specs.declared.search.Turned.{Turned};
-    ghost use Rattle.jn_voided.specs.Kept.{Numbers};
+impl<'a> Model for Voids<'a> {
+    ghost use Rattle.jn_voided.specs.Kept.{IsKept, Scene, scene_by};
 
-    ghost Value = { List (Numbers × Turned) };
+    ghost Value = { Scene };
 
-    ghost view = { λ v. v.turned.entries };
+    ghost view = { λ v. scene_by v.program.now v.sig.now v.tables.now };
+
+    ghost invariant = { λ v. IsKept v.program.now v.sig.now v.tables.now v.turned.entries };
 }
 
-impl Voids {
+impl<'a> Voids<'a> {
     /// None is kept.
     #[tactic(auto, using(crate::proofs::Keeping::none_turned))]
-    pub fn new(alloc: Global) -> Voids
-        ensures { (P : Program) (s : List Qualifier) (tables : List Table) → AreTurned P s tables result }
+    pub fn new(
+        alloc: Global,
+        program: &'a Program,
+        sig: &'a Sig,
+        tables: &'a [FlowTable],
+    ) -> Voids<'a>
+        requires inferable { IsInferable program.now }
+        requires sized { (b : ℕ) → b < length program.now.bodies
+            → Sized program.now b (slice_index_or tables.now b []) }
+        ensures { result ≡ scene_by program.now sig.now tables.now }
     {
         Voids {
+            program,
+            sig,
+            tables,
             turned: HashMap::new(alloc),
         }
     }
 
+    /// The program.
+    pub fn program(&self) -> &'a Program
+        ensures { result.now ≡ self.now.program }
+    {
+        self.program
+    }
+
     /// The first pair before a read, or that there is none, where the turns are kept.
     fn before(&self, body: BodyNo, key: FieldKey, read: PointNo) -> Option<Option<Voided>>
-        ensures { MatchOption result (Unit {0}) (λ found. (t : Turned)
-            × (turned_of self.now body.0 key ≡ Some t) × (found ≡ voided_before t read.0)) }
+        ensures { MatchOption result (Unit {0}) (λ found.
+            IsFound self.now.program self.now.sig body.0 (slice_index_or self.now.tables body.0 [])
+            key read.0 found) }
     {
         match self.turned.get(&numbers_of(body, key)) {
             None => None,
-            Some(turned) => Some(turned.before(read)),
+            Some(turned) => {
+                let found = turned.before(read);
+                Some(found)
+            }
         }
     }
 
-    /// Keeps none from now on, where there are many.
-    fn make_room(&mut self, alloc: Global, program: &Program, sig: &Sig, tables: &[FlowTable])
-        requires { AreTurned program.now sig.now tables.now self.old }
-        ensures { AreTurned program.now sig.now tables.now self.new }
+    /// The turns of a fact.
+    fn turned_of(&self, alloc: Global, body: BodyNo, key: FieldKey) -> Result<Turned, OutOfMemory>
+        requires inside { body.0 < length self.now.program.bodies }
+        ensures { IfOk result (λ turned. IsTurned self.now.program self.now.sig body.0
+            (slice_index_or self.now.tables body.0 []) key turned) }
     {
-        let _program = program;
-        let _sig = sig;
-        let _tables = tables;
+        let keys = find_keys(alloc, self.program, body)?;
+        let analysis = Analysis::new(self.program, self.sig, body, &keys);
+        find_turned(alloc, &analysis, table_of(self.tables, body), key)
+    }
+
+    /// Keeps none from now on, where there are many.
+    #[tactic(auto, using(crate::proofs::Keeping::none_turned))]
+    fn make_room(&mut self, alloc: Global)
+        ensures { self.new ≡ self.old }
+    {
         if self.turned.len() >= MOST_KEPT {
-            *self = Voids::new(alloc);
+            self.turned = HashMap::new(alloc);
         }
     }
 
     /// Keeps the turns of a fact.
-    fn put(
-        &mut self,
-        program: &Program,
-        sig: &Sig,
-        tables: &[FlowTable],
-        body: BodyNo,
-        key: FieldKey,
-        turned: Turned,
-    ) -> Result<(), AllocError>
-        requires kept { AreTurned program.now sig.now tables.now self.old }
-        requires turned { IsTurned program.now sig.now body.0
-            (slice_index_or tables.now body.0 []) key turned }
-        ensures { OnOk result (AreTurned program.now sig.now tables.now self.new) }
+    fn put(&mut self, body: BodyNo, key: FieldKey, turned: Turned) -> Result<(), AllocError>
+        requires { IsTurned self.old.program self.old.sig body.0
+            (slice_index_or self.old.tables body.0 []) key turned }
+        ensures { self.new ≡ self.old }
     {
-        let _program = program;
-        let _sig = sig;
-        let _tables = tables;
         match self.turned.insert(numbers_of(body, key), turned) {
             Ok(_) => Ok(()),
             Err(_) => Err(AllocError),
@@ -119,26 +137,6 @@ fn table_of(tables: &[FlowTable], body: BodyNo) -> &[Option<Env>]
     }
 }
 
-/// The turns of a fact.
-fn turned_of(
-    alloc: Global,
-    program: &Program,
-    sig: &Sig,
-    tables: &[FlowTable],
-    body: BodyNo,
-    key: FieldKey,
-) -> Result<Turned, OutOfMemory>
-    requires inside { body.0 < length program.now.bodies }
-    requires inferable { IsInferable program.now }
-    requires sized { Sized program.now body.0 (slice_index_or tables.now body.0 []) }
-    ensures { IfOk result (λ turned. IsTurned program.now sig.now body.0
-        (slice_index_or tables.now body.0 []) key turned) }
-{
-    let keys = find_keys(alloc, program, body)?;
-    let analysis = Analysis::new(program, sig, body, &keys);
-    find_turned(alloc, &analysis, table_of(tables, body), key)
-}
-
 /// The first pair of a point that made it known that the field of the object in the register isn't null, a test or an assignment, and a point that ended
 /// that, so that it wasn't known again up to the point `read`; None where there is no such pair. What made it known last counts. The first pair is that of
 /// the least point that ended it, and of that the least that made it, by the numbers of points in the body. What is found for the field is kept.
@@ -147,29 +145,23 @@ fn turned_of(
 /// No memory was found.
 pub fn next_voided(
     alloc: Global,
-    program: &Program,
-    sig: &Sig,
-    tables: &[FlowTable],
     voids: &mut Voids,
     body: BodyNo,
     key: FieldKey,
     read: PointNo,
 ) -> Result<Option<Voided>, OutOfMemory>
-    requires inside { body.0 < length program.now.bodies }
-    requires inferable { IsInferable program.now }
-    requires sized { Sized program.now body.0 (slice_index_or tables.now body.0 []) }
-    requires kept { AreTurned program.now sig.now tables.now voids.old }
-    ensures kept { IfOk result (λ found. AreTurned program.now sig.now tables.now voids.new) }
-    ensures found { IfOk result (λ found. IsFound program.now sig.now body.0
-        (slice_index_or tables.now body.0 []) key read.0 found) }
+    requires { body.0 < length voids.old.program.bodies }
+    ensures same { voids.new ≡ voids.old }
+    ensures found { IfOk result (λ found. IsFound voids.old.program voids.old.sig body.0
+        (slice_index_or voids.old.tables body.0 []) key read.0 found) }
 {
     match voids.before(body, key, read) {
         Some(found) => Ok(found),
         None => {
-            let turned = turned_of(alloc, program, sig, tables, body, key)?;
+            let turned = voids.turned_of(alloc, body, key)?;
             let found = turned.before(read);
-            voids.make_room(alloc, program, sig, tables);
-            voids.put(program, sig, tables, body, key, turned)?;
+            voids.make_room(alloc);
+            voids.put(body, key, turned)?;
             Ok(found)
         }
     }

@@ -1,16 +1,15 @@
 //! All workers.
-ghost use Rattle.std.specs.Prelude.{◌≡◌, ◌-◌, ◌<◌, ◌≤◌, length, IfOk};
+ghost use Rattle.std.specs.Prelude.{◌≡◌, ◌-◌, ◌<◌, length, IfOk};
 ghost use Rattle.std.specs.Thread.{IsSync};
 ghost use Rattle.jn_sigtable.specs.System.{least};
 ghost use Rattle.jn_sigtable.specs.Machine.{IsAtRest, HasSeenAll};
 ghost use Rattle.jn_sigtable.specs.Words.{system_of, view_of, IsPassOf};
-ghost use Rattle.jn_worklist.specs.Plans.{plan_of};
 ghost use Rattle.jn_workers.specs.Ends.{WeighsAs};
 ghost use Rattle.jn_workers.specs.Passes.{CanWork, HasWorked};
 
 use crate::working::{Worked, work};
 use jn_base::OutOfMemory;
-use jn_sharing::Gate;
+use jn_sharing::{Gate, Workers};
 use jn_sigtable::{Constraints, Pass, SigTable};
 use jn_worklist::{Plan, plan};
 use std::alloc::Global;
@@ -93,17 +92,16 @@ pub fn solve<R: Threads + Sync, C: Constraints + Sync, G: Gate + Sync>(
     alloc: Global,
     system: C,
     start: &[u64],
-    workers: u32,
+    workers: Workers,
     gate: &G,
 ) -> Result<Vec<u64>, OutOfMemory>
     requires any { 0 < (C.describe system).bodies }
     requires count { length start.now ≡ (C.describe system).words }
-    requires workers { (0 < workers) × (workers ≤ 16) }
     ensures { IfOk result (λ words. words.items ≡ least (C.describe system) start.now) }
 {
     let plan = plan(alloc, &system)?;
     let (table, pass) = SigTable::new(alloc, system, start)?;
-    let (pass, end) = spread(rt, alloc, &table, &plan, pass, workers - 1, gate);
+    let (pass, end) = spread(rt, alloc, &table, &plan, pass, workers.count() - 1, gate);
     let (_, words) = table.close(alloc, pass)?;
     match end {
         Worked::Emptied => Ok(words),

@@ -9,7 +9,7 @@ ghost use Rattle.jn_workers.specs.Passes.{CanWork, HasWorked};
 use jn_base::{BodyNo, OutOfMemory, WordNo};
 use jn_sharing::Gate;
 use jn_sigtable::{Constraints, Pass, SigTable};
-use jn_worklist::{Plan, Room, run_body_in};
+use jn_worklist::{Plan, Room, Task, run_body_in};
 use std::alloc::Global;
 
 /// How a worker ended.
@@ -42,7 +42,8 @@ fn try_body<C: Constraints, G: Gate>(
         return Ok(false);
     };
     gate.enter(worker, taken);
-    match run_body_in(alloc, table, plan, pass, body, room) {
+    let task = Task { table, plan, body };
+    match run_body_in(alloc, &task, pass, room) {
         Ok(()) => Ok(true),
         Err(_) => Err(OutOfMemory),
     }

@@ -3,6 +3,8 @@ use Rattle.std.specs.Prelude.{◌≡◌, ◌⊎◌, ℕ, ◌/◌, ◌%◌, ◌<�
 use Rattle.std.specs.List.{range_with_len}
 use Rattle.std.specs.Int.{bit_at}
 use Rattle.std.proofs.Math.Path.{fun_ext}
+use Rattle.std.proofs.Math.Nat.{ℕ_set}
+use mathlib.Core.List.{is_set}
 use Rattle.jn_base.specs.declared.number.BodyNo.{BodyNo}
 use Rattle.jn_base.specs.declared.number.WordNo.{WordNo}
 use Rattle.jn_sigtable.specs.System.{System, lists_word}
@@ -17,6 +19,13 @@ readers_of sys w = filter (λ b. sys.reads b.0 w) (map body_no (range_with_len 0
 -- for each word, the bodies that read it
 abbrev pub plan_of : System → List (List BodyNo)
 plan_of sys = map (readers_of sys) (range_with_len 0 sys.words)
+
+-- two proofs that one plan is another are one
+pub plans_set : IsSet (List (List BodyNo))
+plans_set = is_set (is_set body_set)
+  where
+    body_set : IsSet BodyNo
+    body_set = hlevel ℕ_set
 
 -- the body is in the list
 abbrev pub Lists : List BodyNo → ℕ → Type 0

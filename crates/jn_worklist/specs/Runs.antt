@@ -1,9 +1,12 @@
 -- What a pass knows between the steps of one body, and when the body has been run.
-use Rattle.std.specs.Prelude.{◌≡◌, ◌⊎◌, ◌↔◌, ℕ, ◌-◌, true, Some, None, List, [], ◌∷◌, take, length, replicate, slice_index}
+use Rattle.std.specs.Prelude.{◌≡◌, ◌⊎◌, ◌↔◌, ℕ, ◌-◌, true, Some, None, Option, List, [], ◌∷◌, take, length, replicate, slice_index}
 use Rattle.jn_base.specs.declared.number.WordNo.{WordNo}
 use Rattle.jn_sigtable.specs.declared.view.View.{View}
+use Rattle.jn_sigtable.specs.declared.table.SigTable.{SigTable}
+use Rattle.jn_sigtable.specs.declared.table.Pass.{Pass}
 use Rattle.jn_sigtable.specs.System.{System, Within, bits_for, lists_word}
 use Rattle.jn_sigtable.specs.Machine.{Has, HasReadAll, HasRaisedAll, dirty_words}
+use Rattle.jn_sigtable.specs.Words.{system_of, view_of, IsPassOf}
 use Rattle.jn_worklist.specs.Plans.{IsDue}
 
 -- bits of the word were raised
@@ -66,3 +69,18 @@ module _ {C : Type 0} where
     pub raised : HasRaisedAll sys v b
     pub owes : (x : ℕ) → Has v.owed x ↔ IsDue due x
     pub own : IsDue due b → RaisedOwn sys v b
+
+-- ---- the same of a pass on its table
+module _ {C : Type 0} {K : _} (describe : C → System) (table : SigTable C K) (b : ℕ) (from : View (Option C)) (pass : Pass C) where
+  pub record IsReadingOn (values : List ℕ) (done : List WordNo) : Type 0 where
+    pub own : IsPassOf describe table pass
+    pub reading : IsReading (describe (system_of table)) b from (view_of pass) values done
+
+  pub record IsRaisingOn (values : List ℕ) (os : List (WordNo × ℕ)) (done : ℕ) (due : List ℕ) : Type 0 where
+    pub own : IsPassOf describe table pass
+    pub raising : IsRaising (describe (system_of table)) b from values (view_of pass) os done due
+
+  pub record IsMarkingOn (due : List ℕ) : Type 0 where
+    pub own : IsPassOf describe table pass
+    pub count : length due ≡ dirty_words (describe (system_of table))
+    pub marking : IsMarking (describe (system_of table)) b from (view_of pass) due

@@ -2,30 +2,27 @@
 ghost use Rattle.std.specs.Prelude.{◌≡◌, ◌⊎◌, ℕ, ◌<◌, true, [], length, replicate, slice_index};
 ghost use Rattle.jn_sigtable.specs.System.{IsReadList, lists_word};
 ghost use Rattle.jn_sigtable.specs.Words.{system_of, view_of, IsPassOf};
-ghost use Rattle.jn_worklist.specs.Runs.{IsReading};
+ghost use Rattle.jn_worklist.specs.Runs.{IsReadingOn};
 
-use jn_base::{BodyNo, WordNo};
-use jn_sigtable::{Constraints, Pass, SigTable};
+use crate::task::Task;
+use jn_base::WordNo;
+use jn_sigtable::{Constraints, Pass};
 
 // Writes the values of the words that the body reads over zeros.
 pub fn read_all<C: Constraints>(
-    table: &SigTable<C>,
+    task: &Task<C>,
     pass: &mut Pass<C>,
-    body: BodyNo,
     reads: &[WordNo],
     values: &mut [u64],
 )
-    requires own { IsPassOf C.describe table.now pass.old }
-    requires inside { body.0 < (C.describe (system_of table.now)).bodies }
-    requires list { IsReadList (C.describe (system_of table.now)) body.0 reads.now }
-    requires begun { IsReading (C.describe (system_of table.now)) body.0 (view_of pass.old)
-        (view_of pass.old) values.old [] }
-    ensures own { IsPassOf C.describe table.now pass.new }
-    ensures read { IsReading (C.describe (system_of table.now)) body.0 (view_of pass.old)
-        (view_of pass.new) values.new reads.now }
+    requires list { IsReadList (C.describe (system_of task.now.table.now)) task.now.body.0 reads.now }
+    requires begun { IsReadingOn C.describe task.now.table.now task.now.body.0 (view_of pass.old)
+        pass.old values.old [] }
+    ensures read { IsReadingOn C.describe task.now.table.now task.now.body.0 (view_of pass.old)
+        pass.new values.new reads.now }
 {
     for word in reads {
-        values[word.0 as usize] = table.read_word(pass, *word);
+        values[word.0 as usize] = task.table.read_word(pass, *word);
     }
 }
 

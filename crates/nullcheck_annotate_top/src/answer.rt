@@ -3,10 +3,9 @@ ghost use Rattle.std.specs.Prelude.{◌≡◌, ◌≢◌, ◌<◌, ◌≤◌, �
 ghost use Rattle.std.specs.String.{string_bytes};
 ghost use Rattle.jn_outside.specs.Causes.{Rose};
 ghost use Rattle.jn_command.specs.Answer.{reading};
-ghost use Rattle.jn_front.specs.Counted.{ReadsFit};
 ghost use Rattle.jn_front.specs.declared.source.SourceFile.{SourceFile as SpecFile};
 ghost use Rattle.jn_front.specs.Files.{AllHeld, AreReads, StartsOnly, most_files};
-ghost use Rattle.nullcheck_annotate_top.specs.Answer.{Answers, effects, Starts};
+ghost use Rattle.nullcheck_annotate_top.specs.Answer.{Answers, effects};
 ghost use Rattle.nullcheck_annotate_top.specs.Output.{IsOutput};
 
 use crate::finish::finish;
@@ -17,7 +16,7 @@ use jn_cli::{Mode, Wanted};
 use jn_command::Status;
 use jn_front::{SourceRead, read_all};
 use jn_outside::{Files, Sink};
-use jn_sharing::Gate;
+use jn_sharing::{Gate, Workers};
 use jn_targets::Targets;
 use std::alloc::{AllocError, Global};
 use std::thread::Threads;
@@ -48,12 +47,19 @@ fn output_of_reads<R: Threads + Sync, G: Gate + Sync>(
     reads: &[SourceRead],
 ) -> Result<Output, OutOfMemory>
     requires few { length reads.now ≤ most_files }
-    requires fit { ReadsFit reads.now }
-    requires read { (files : List SpecFile) × AreReads reads.now files }
     ensures { IfOk result (λ o. (files : List SpecFile) → AreReads reads.now files
         → IsOutput infer terse imports mode files o) }
 {
-    let study = study_files(rt, gate, alloc, WORKERS, infer, terse, imports, reads)?;
+    let study = study_files(
+        rt,
+        gate,
+        alloc,
+        Workers::of(WORKERS),
+        infer,
+        terse,
+        imports,
+        reads,
+    )?;
     output_of(alloc, mode, reads, study)
 }
 

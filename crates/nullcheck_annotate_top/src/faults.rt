@@ -1,7 +1,6 @@
 //! Where it is told that files get no annotated texts, or that a slot is left without words, and the lines that say it.
 ghost use Rattle.std.specs.Prelude.{◌≡◌, ◌≤◌, ◌++◌, codes, length, IfOk};
 ghost use Rattle.jn_base.specs.Place.{place_in};
-ghost use Rattle.jn_front.specs.Counted.{ReadsFit};
 ghost use Rattle.jn_front.specs.Files.{files_of_reads};
 ghost use Rattle.jn_points.specs.Members.{some_of};
 ghost use Rattle.jn_sigs.specs.Signature as sigs;
@@ -163,7 +162,6 @@ fn place_line(
     code: &[u8],
     span: Span,
 ) -> Result<Vec<u8>, AllocError>
-    requires fit { ReadsFit reads.now }
     ensures { IfOk result
         (λ line. line.items ≡ output.place_line (files_of_reads reads.now) code.now span) }
 {
@@ -207,7 +205,6 @@ pub(crate) fn fault_text(
     fault: AnnotateFault,
     span: Span,
 ) -> Result<Vec<u8>, AllocError>
-    requires fit { ReadsFit reads.now }
     ensures { IfOk result
         (λ text. text.items ≡ output.fault_text (files_of_reads reads.now) fault span) }
 {
@@ -218,7 +215,6 @@ pub(crate) fn fault_text(
 
 /// The lines of a slot that is left without words: its place, and its cure.
 fn left_text(alloc: Global, reads: &[SourceRead], left: Left) -> Result<Vec<u8>, AllocError>
-    requires fit { ReadsFit reads.now }
     ensures { IfOk result
         (λ text. text.items ≡ output.left_text (files_of_reads reads.now) left) }
 {
@@ -235,7 +231,6 @@ fn put_left(
     reads: &[SourceRead],
     left: Left,
 ) -> Result<(), AllocError>
-    requires fit { ReadsFit reads.now }
     ensures { IfOk result (λ u. text.new.items
         ≡ text.old.items ++ output.left_text (files_of_reads reads.now) left) }
 {
@@ -250,7 +245,6 @@ pub(crate) fn left_texts(
     reads: &[SourceRead],
     left: &[Left],
 ) -> Result<Vec<u8>, AllocError>
-    requires fit { ReadsFit reads.now }
     ensures { IfOk result
         (λ text. text.items ≡ output.left_texts (files_of_reads reads.now) left.now) }
 {

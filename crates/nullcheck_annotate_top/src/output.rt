@@ -3,7 +3,6 @@ ghost use Rattle.std.specs.Prelude.{◌≡◌, [], List, IfOk};
 ghost use Rattle.jn_command.specs.Shown.{shown};
 ghost use Rattle.jn_command.specs.Stands.{StandIn};
 ghost use Rattle.jn_command.specs.declared.report.Report.TheVariants.{Refused as RefusedReport};
-ghost use Rattle.jn_front.specs.Counted.{ReadsFit};
 ghost use Rattle.jn_front.specs.declared.source.SourceFile.{SourceFile as SpecFile};
 ghost use Rattle.jn_front.specs.Files.{files_of_reads, AreReads};
 ghost use Rattle.jn_reporters.specs.Reports.{plain_shown};
@@ -45,7 +44,6 @@ pub(crate) fn only(alloc: Global, status: Status, bytes: Vec<u8>) -> Output
 
 /// The report of files that are refused by these rows.
 fn refused_text(alloc: Global, reads: &[SourceRead], rows: Seq<Row>) -> Result<Vec<u8>, OutOfMemory>
-    requires fit { ReadsFit reads.now }
     requires stand { StandIn reads.now rows }
     ensures { IfOk result (λ text. (files : List SpecFile) → AreReads reads.now files
         → text.items ≡ shown plain_shown files (RefusedReport rows)) }
@@ -60,7 +58,6 @@ fn refused_output(
     reads: &[SourceRead],
     rows: Seq<Row>,
 ) -> Result<Output, OutOfMemory>
-    requires fit { ReadsFit reads.now }
     requires stand { StandIn reads.now rows }
     ensures { IfOk result (λ o. (files : List SpecFile) → AreReads reads.now files
         → o ≡ spec.only Status.Refused (shown plain_shown files (RefusedReport rows))) }
@@ -121,7 +118,6 @@ fn told_after(
     left: &[Left],
     output: Output,
 ) -> Result<Output, OutOfMemory>
-    requires fit { ReadsFit reads.now }
     ensures { IfOk result
         (λ o. o ≡ spec.told_after (files_of_reads reads.now) left.now output) }
 {
@@ -154,7 +150,6 @@ fn annotated_output(
     texts: &[Seq<u8>],
     left: &[Left],
 ) -> Result<Output, OutOfMemory>
-    requires fit { ReadsFit reads.now }
     ensures { IfOk result (λ o. o
         ≡ spec.told_after (files_of_reads reads.now) left.now
         (spec.changed_output mode
@@ -172,7 +167,6 @@ fn fault_output(
     fault: AnnotateFault,
     span: Span,
 ) -> Result<Output, OutOfMemory>
-    requires fit { ReadsFit reads.now }
     ensures { IfOk result (λ o. o
         ≡ spec.only Status.Rejected (spec.fault_text (files_of_reads reads.now) fault span)) }
 {
@@ -191,7 +185,6 @@ pub fn output_of(
     reads: &[SourceRead],
     study: Study,
 ) -> Result<Output, OutOfMemory>
-    requires fit { ReadsFit reads.now }
     requires of { IsOf reads.now study }
     ensures { IfOk result (λ o. (files : List SpecFile) → AreReads reads.now files
         → o ≡ spec.output_of mode files study) }

@@ -3,7 +3,6 @@ ghost use Rattle.std.specs.Prelude.{◌≡◌, ◌≤◌, List, map, length, IsS
 ghost use Rattle.jn_places.specs.PlacedView.{placed_file};
 ghost use Rattle.jn_inference_law.specs.Solution.{IsLeastSignature};
 ghost use Rattle.jn_command.specs.Stands.{StandIn};
-ghost use Rattle.jn_front.specs.Counted.{ReadsFit};
 ghost use Rattle.jn_front.specs.declared.source.SourceFile.{SourceFile as SpecFile};
 ghost use Rattle.jn_front.specs.Files.{files_of_reads, AreReads, most_files};
 ghost use Rattle.jn_phases.specs.Phases.{IsTypedOr, TypedProgramOf};
@@ -22,7 +21,7 @@ use jn_inference_law::law::regular_programs_are_inferable;
 use jn_phases::{TypedFiles, type_files};
 use jn_places::law::places_are_forgotten;
 use jn_points::Program;
-use jn_sharing::Gate;
+use jn_sharing::{Gate, Workers};
 use jn_sigs::Sig;
 use jn_system::solve_sig;
 use jn_trees::{FileTree, Names, Token};
@@ -122,7 +121,7 @@ fn study_solved(
 fn study_typed<R: Threads + Sync, G: Gate + Sync>(
     rt: &R,
     alloc: Global,
-    workers: u32,
+    workers: Workers,
     infer: Infer,
     terse: bool,
     imports: bool,
@@ -135,8 +134,6 @@ fn study_typed<R: Threads + Sync, G: Gate + Sync>(
     requires program { (typed : TypedProgramOf infer (files_of_reads reads.now) names.now base)
         × (typed.of_files.trees ≡ map placed_file trees.now) }
     requires few { length reads.now ≤ 64 }
-    requires fit { ReadsFit reads.now }
-    requires workers { (1 ≤ workers) × (workers ≤ 16) }
     ensures { IfOk result (λ study. IsStudy infer terse imports (files_of_reads reads.now) study) }
 {
     regular_programs_are_inferable();
@@ -152,7 +149,7 @@ fn study_typed<R: Threads + Sync, G: Gate + Sync>(
 fn study_found<R: Threads + Sync, G: Gate + Sync>(
     rt: &R,
     alloc: Global,
-    workers: u32,
+    workers: Workers,
     infer: Infer,
     terse: bool,
     imports: bool,
@@ -163,10 +160,7 @@ fn study_found<R: Threads + Sync, G: Gate + Sync>(
     base: Option<BaseTyped>,
     gate: &G,
 ) -> Result<Study, OutOfMemory>
-    requires workers { (1 ≤ workers) × (workers ≤ 16) }
     requires few { length reads.now ≤ 64 }
-    requires fit { ReadsFit reads.now }
-    requires read { (files : List SpecFile) × AreReads reads.now files }
     requires typed { (files : List SpecFile) → AreReads reads.now files
         → IsTypedOr infer files names.now (map placed_file trees.now) rows base }
     requires whole { IsSome base
@@ -198,16 +192,13 @@ pub fn study_files<R: Threads + Sync, G: Gate + Sync>(
     rt: &R,
     gate: &G,
     alloc: Global,
-    workers: u32,
+    workers: Workers,
     infer: Infer,
     terse: bool,
     imports: bool,
     reads: &[SourceRead],
 ) -> Result<Study, OutOfMemory>
-    requires workers { (1 ≤ workers) × (workers ≤ 16) }
     requires few { length reads.now ≤ most_files }
-    requires fit { ReadsFit reads.now }
-    requires read { (files : List SpecFile) × AreReads reads.now files }
     ensures is { IfOk result (λ study. (files : List SpecFile) → AreReads reads.now files
         → IsStudy infer terse imports files study) }
     ensures of { IfOk result (λ study. IsOf reads.now study) }

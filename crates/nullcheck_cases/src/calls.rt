@@ -1,5 +1,4 @@
 //! One call from outside, by the machine or by trees: what it prints and comes to.
-ghost use Rattle.jn_index.specs.Sizes.{Few};
 
 use crate::caller::Caller;
 use crate::entry::Entry;
@@ -152,9 +151,7 @@ fn came_by(answer: Result<Option<Value>, Halt>, made: Option<usize>) -> Result<C
     }
 }
 
-fn by_trees(outer: &Run, caller: &mut Caller, entry: Entry) -> Result<Called, AllocError>
-    requires few { Few outer.now.program.now }
-{
+fn by_trees(outer: &Run, caller: &mut Caller, entry: Entry) -> Result<Called, AllocError> {
     let alloc = outer.alloc;
     let Entry {
         method,
@@ -189,9 +186,7 @@ pub fn make_call(
     outer: &Run,
     caller: &mut Caller,
     entry: Entry,
-) -> Result<Called, AllocError>
-    requires few { Few outer.now.program.now }
-{
+) -> Result<Called, AllocError> {
     match way {
         Way::Machine => by_machine(outer, caller, entry),
         Way::Trees => by_trees(outer, caller, entry),

@@ -2,7 +2,6 @@
 //! other line is a call, over the heap that the calls before it left: `new NAME CLASS ARG..`, `static NAME CLASS METHOD ARG..`, or `call NAME
 //! CLASS METHOD OBJECT ARG..`, of a method that the class declares. What a call gives is kept as NAME. Each call is made by the machine and by
 //! trees, each over a heap of its own.
-ghost use Rattle.jn_index.specs.Sizes.{Few};
 
 use crate::caller::Caller;
 use crate::calls::{Called, Came, Way, make_call};
@@ -14,7 +13,7 @@ use jn_machine::{End, Value};
 use jn_phases::type_files;
 use jn_points::Program;
 use jn_program::sources::sources_of_files;
-use jn_sharing::Straight;
+use jn_sharing::{Straight, Workers};
 use jn_tree_run::calling::Run;
 use jn_trees::{FileTree, Names};
 use std::alloc::{AllocError, Global};
@@ -117,9 +116,7 @@ fn called_text(
 }
 
 /// Makes the call of a line in one of the ways, and gives what comes of it.
-fn line_text(way: Way, outer: &Run, caller: &mut Caller, line: &str) -> Result<String, AllocError>
-    requires few { Few outer.now.program.now }
-{
+fn line_text(way: Way, outer: &Run, caller: &mut Caller, line: &str) -> Result<String, AllocError> {
     let alloc = outer.alloc;
     let mut words = Vec::new(alloc);
     for word in line.split_whitespace() {
@@ -139,9 +136,7 @@ fn line_text(way: Way, outer: &Run, caller: &mut Caller, line: &str) -> Result<S
 }
 
 /// Makes the call of each line in both ways, and prints what comes of it.
-fn play_lines(rt: &HostRuntime, outer: &Run, lines: &[&str]) -> io::Result<()>
-    requires few { Few outer.now.program.now }
-{
+fn play_lines(rt: &HostRuntime, outer: &Run, lines: &[&str]) -> io::Result<()> {
     let program = outer.program.program();
     let mut machine = Caller::new(outer.alloc, program)?;
     let mut trees = Caller::new(outer.alloc, program)?;
@@ -168,7 +163,6 @@ fn play_typed(
 ) -> io::Result<()> {
     let alloc = rt.alloc();
     let program = base.indexed();
-    program.facts();
     let Ok(sources) = sources_of_files(alloc, trees) else {
         return Err(io::Error::from(AllocError));
     };
@@ -192,7 +186,14 @@ pub fn play_outside<R: Threads + Sync>(
     let Some(reads) = reads_of(rt, files)? else {
         return println!(rt; "-- not read");
     };
-    let Ok(typed) = type_files(threads, &Straight, rt.alloc(), 1, Infer::Private, &reads) else {
+    let Ok(typed) = type_files(
+        threads,
+        &Straight,
+        rt.alloc(),
+        Workers::of(1),
+        Infer::Private,
+        &reads,
+    ) else {
         return Err(io::Error::from(AllocError));
     };
     match &typed.base {

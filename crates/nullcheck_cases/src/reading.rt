@@ -1,6 +1,5 @@
 //! The files of a case, read as the top call reads them.
 ghost use Rattle.std.specs.Prelude.{◌≤◌, IfOk, IfSome, List, length};
-ghost use Rattle.jn_front.specs.Counted.{ReadsFit};
 ghost use Rattle.jn_front.specs.Files.{AreReads};
 ghost use Rattle.jn_front.specs.declared.source.SourceFile.{SourceFile as SpecFile};
 
@@ -26,7 +25,6 @@ pub fn file_names(alloc: Global, command: &Command) -> Result<Vec<String>, Alloc
 /// The files of these names, which stand beside the tables; None where one isn't there, or where there are more than 64.
 pub fn reads_of(rt: &HostRuntime, names: &[String]) -> io::Result<Option<Vec<SourceRead>>>
     ensures few { IfOk result (λ found. IfSome found (λ reads. length reads.items ≤ 64)) }
-    ensures fit { IfOk result (λ found. IfSome found (λ reads. ReadsFit reads.items)) }
     ensures read { IfOk result
         (λ found. IfSome found (λ reads. (files : List SpecFile) × AreReads reads.items files)) }
 {

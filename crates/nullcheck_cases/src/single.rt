@@ -1,8 +1,5 @@
 //! The run of the one main of accepted files by single steps, beside the same run at once.
-ghost use Rattle.std.specs.Prelude.{◌≤◌, List, length};
-ghost use Rattle.jn_front.specs.Counted.{ReadsFit};
-ghost use Rattle.jn_front.specs.Files.{AreReads};
-ghost use Rattle.jn_front.specs.declared.source.SourceFile.{SourceFile as SpecFile};
+ghost use Rattle.std.specs.Prelude.{◌≤◌, length};
 ghost use Rattle.jn_running.specs.Going.{IsGoing};
 
 use crate::reading::{file_names, reads_of};
@@ -12,7 +9,7 @@ use jn_cli::{Command, read_words};
 use jn_front::SourceRead;
 use jn_outside::MemSink;
 use jn_running::{Ended, Machine, run_main};
-use jn_sharing::Straight;
+use jn_sharing::{Straight, Workers};
 use jn_trees::Names;
 use nullcheck_top::check::check;
 use std::alloc::{AllocError, Global};
@@ -76,10 +73,15 @@ fn reads_end_so<R: Threads + Sync>(
     steps: u64,
 ) -> Result<bool, AllocError>
     requires few { length reads.now ≤ 64 }
-    requires fit { ReadsFit reads.now }
-    requires read { (files : List SpecFile) × AreReads reads.now files }
 {
-    let Ok(checked) = check(threads, &Straight, alloc, 1, command.infer, reads) else {
+    let Ok(checked) = check(
+        threads,
+        &Straight,
+        alloc,
+        Workers::of(1),
+        command.infer,
+        reads,
+    ) else {
         return Err(AllocError);
     };
     match &checked.found.accepted {

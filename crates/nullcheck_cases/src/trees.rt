@@ -4,7 +4,6 @@ ghost use Rattle.std.specs.Prelude.{◌≡◌, ◌≤◌, [], length, map};
 ghost use Rattle.jn_heads.specs.Extract.{heads};
 ghost use Rattle.jn_heads.specs.Inferred.{tabled};
 ghost use Rattle.jn_classtable.specs.Rows.{t_rows};
-ghost use Rattle.jn_front.specs.Counted.{ReadsFit};
 ghost use Rattle.jn_places.specs.PlacedView.{placed_file};
 ghost use Rattle.jn_program.specs.Lowered.{IsProgram};
 ghost use Rattle.jn_tree_run.specs.Beginning.{HasTrees};
@@ -20,7 +19,7 @@ use jn_index::BaseTyped;
 use jn_index::indexed::IndexedProgram;
 use jn_outside::MemSink;
 use jn_program::lowering::lower;
-use jn_sharing::Straight;
+use jn_sharing::{Straight, Workers};
 use jn_tree_run::{FaultKind, TreeEnd, tree_run};
 use std::alloc::{AllocError, Global};
 use std::io;
@@ -129,7 +128,7 @@ fn run_program<R: Threads + Sync>(
     requires declared { t_rows (heads (map placed_file parsed.now.trees.items)) ≡ [] }
     requires program { IsProgram command.now.infer (map placed_file parsed.now.trees.items) program }
 {
-    match base_check(rt, alloc, program, 1) {
+    match base_check(rt, alloc, program, Workers::of(1)) {
         Err(_) => "not base-typed\n".to_string(alloc),
         Ok(base) => {
             let shown = run_typed(alloc, command, reads, parsed, &base, bounds);
@@ -152,7 +151,7 @@ fn run_table<R: Threads + Sync>(
     requires declared { t_rows (heads (map placed_file parsed.now.trees.items)) ≡ [] }
     requires table { table ≡ tabled command.now.infer (map placed_file parsed.now.trees.items) }
 {
-    match lower(rt, alloc, table, &parsed.trees, 1) {
+    match lower(rt, alloc, table, &parsed.trees, Workers::of(1)) {
         Err(_) => "not lowered\n".to_string(alloc),
         Ok(program) => run_program(rt, alloc, command, reads, parsed, program, bounds),
     }
@@ -167,9 +166,8 @@ fn run_reads<R: Threads + Sync>(
     bounds: Bounds,
 ) -> Result<String, AllocError>
     requires few { length reads.now ≤ 64 }
-    requires fit { ReadsFit reads.now }
 {
-    let Ok(parsed) = parse_files(rt, alloc, reads, 1, &Straight) else {
+    let Ok(parsed) = parse_files(rt, alloc, reads, Workers::of(1), &Straight) else {
         return Err(AllocError);
     };
     if !parsed.rows.is_empty() {

@@ -3,7 +3,6 @@ ghost use Rattle.std.specs.Prelude.{◌≡◌, ◌≤◌, ◌<◌, ◌^◌, ℕ,
 ghost use Rattle.jn_base.specs.declared.refusal.Fail.TheVariants.{Refused as RefusedFor};
 ghost use Rattle.jn_places.specs.PlacedView.{placed_file};
 ghost use Rattle.jn_cert.specs.Checking.{IsCertified, IsWhyRefused};
-ghost use Rattle.jn_front.specs.Counted.{ReadsFit};
 ghost use Rattle.jn_front.specs.declared.source.SourceFile.{SourceFile as SpecFile};
 ghost use Rattle.jn_front.specs.Files.{files_of_reads, AreReads, most_files};
 ghost use Rattle.jn_command.specs.Stands.{StandIn};
@@ -23,7 +22,7 @@ use jn_index::BaseTyped;
 use jn_phases::law::files_have_one_typing;
 use jn_phases::{TypedFiles, type_files};
 use jn_safe_files::law::files_accepted_under_some_signature_are_safe;
-use jn_sharing::Straight;
+use jn_sharing::{Straight, Workers};
 use jn_trees::{FileTree, Names};
 use std::alloc::Global;
 use std::mem::forget;
@@ -120,7 +119,6 @@ fn verdict_of(
     base: Option<BaseTyped>,
     cert: &CertRead,
 ) -> Result<CertVerdict, OutOfMemory>
-    requires read { (files : List SpecFile) × AreReads reads.now files }
     requires short { length cert.now.bytes < 2 ^ 32 }
     requires typed { (files : List SpecFile) → AreReads reads.now files
         → IsTypedOr infer files names.now (map placed_file trees.now) rows base }
@@ -157,8 +155,6 @@ pub(crate) fn find<R: Threads + Sync>(
     cert: &CertRead,
 ) -> Result<CertVerdict, OutOfMemory>
     requires few { length reads.now ≤ most_files }
-    requires fit { ReadsFit reads.now }
-    requires read { (files : List SpecFile) × AreReads reads.now files }
     requires short { length cert.now.bytes < 2 ^ 32 }
     ensures found { IfOk result (λ verdict. (files : List SpecFile) (bytes : List ℕ)
         → AreReads reads.now files → IsCertRead cert.now bytes
@@ -172,7 +168,7 @@ pub(crate) fn find<R: Threads + Sync>(
         base,
         names,
         trees,
-    } = type_files(rt, &Straight, alloc, 1, infer, reads)?;
+    } = type_files(rt, &Straight, alloc, Workers::of(1), infer, reads)?;
     let found = verdict_of(alloc, infer, reads, &names, &trees, rows, base, cert);
     forget(names);
     forget(trees);

@@ -1,7 +1,6 @@
 //! The bytes that tell a fault of a certificate.
-ghost use Rattle.std.specs.Prelude.{◌≡◌, ◌≤◌, ◌++◌, ◌<◌, ◌^◌, codes, length, None, Some, IfOk, slice_get};
+ghost use Rattle.std.specs.Prelude.{◌≡◌, ◌≤◌, ◌++◌, ◌<◌, codes, length, None, Some, IfOk, slice_get};
 ghost use Rattle.jn_base.specs.Place.{place_in};
-ghost use Rattle.jn_front.specs.Counted.{ReadsFit};
 ghost use Rattle.jn_front.specs.Files.{files_of_reads};
 ghost use Rattle.jn_reporters.specs.Reports.{plain_line};
 ghost use Rattle.jn_command.specs.Shown.{row_of, row_of_file};
@@ -161,7 +160,6 @@ fn place_in_file(alloc: Global, file: &SourceFile, span: Span) -> Result<Vec<u8>
 
 /// The same, or nothing where the span is of no file.
 fn place_of_span(alloc: Global, reads: &[SourceRead], span: Span) -> Result<Vec<u8>, AllocError>
-    requires fit { ReadsFit reads.now }
     ensures { IfOk result
         (λ text. text.items ≡ spec.place_in_file (slice_get (files_of_reads reads.now) span.file.0) span) }
 {
@@ -179,7 +177,6 @@ fn place_text(
     reads: &[SourceRead],
     span: Option<Span>,
 ) -> Result<Vec<u8>, AllocError>
-    requires fit { ReadsFit reads.now }
     ensures { IfOk result
         (λ text. text.items ≡ spec.place_text (files_of_reads reads.now) span) }
 {
@@ -197,7 +194,6 @@ fn placed_line(
     word: &str,
     span: Option<Span>,
 ) -> Result<Vec<u8>, AllocError>
-    requires fit { ReadsFit reads.now }
     ensures { IfOk result (λ line. line.items
         ≡ spec.placed_line cert.now (files_of_reads reads.now) word.now span) }
 {
@@ -270,7 +266,6 @@ fn row_of_none(alloc: Global, row: Row) -> Result<Vec<u8>, AllocError>
 
 /// The line of a row, as the plain reporter shows it.
 fn row_line(alloc: Global, reads: &[SourceRead], row: Row) -> Result<Vec<u8>, AllocError>
-    requires fit { ReadsFit reads.now }
     ensures { IfOk result
         (λ line. line.items ≡ plain_line (row_of (files_of_reads reads.now) row).text) }
 {
@@ -290,7 +285,6 @@ pub(crate) fn fault_line(
     program: &Program,
     fault: CertFault,
 ) -> Result<Vec<u8>, OutOfMemory>
-    requires fit { ReadsFit reads.now }
     ensures { IfOk result (λ line. line.items
         ≡ spec.fault_line cert.now (files_of_reads reads.now) program.now fault) }
 {

@@ -5,7 +5,6 @@ ghost use Rattle.jn_command.specs.declared.report.Report.TheVariants.{Refused as
 ghost use Rattle.jn_command.specs.Shown.{shown};
 ghost use Rattle.jn_command.specs.Stands.{StandIn};
 ghost use Rattle.jn_front.specs.declared.source.SourceFile.{SourceFile as FileOf};
-ghost use Rattle.jn_front.specs.Counted.{ReadsFit};
 ghost use Rattle.jn_front.specs.Files.{AreReads, files_of_reads, most_files, names_of};
 ghost use Rattle.jn_reporters.specs.Reports.{plain_shown};
 ghost use Rattle.nullcheck_cert_check.specs.Lines.{status_of, verdict_text};
@@ -33,7 +32,6 @@ fn rows_of(alloc: Global, rows: &[Row]) -> Result<Report, AllocError>
 
 /// The bytes of rows of files that were read, as the plain reporter shows them.
 fn rows_text(alloc: Global, reads: &[SourceRead], rows: &[Row]) -> Result<Vec<u8>, OutOfMemory>
-    requires fit { ReadsFit reads.now }
     requires stand { StandIn reads.now rows.now }
     ensures { IfOk result (λ text. (files : List FileOf) → AreReads reads.now files
         → text.items ≡ shown plain_shown files (RefusedReport rows.now)) }
@@ -57,7 +55,6 @@ fn text_of(
     reads: &[SourceRead],
     verdict: &CertVerdict,
 ) -> Result<Vec<u8>, OutOfMemory>
-    requires fit { ReadsFit reads.now }
     requires stand { StandIn reads.now (refused_rows verdict.now) }
     requires whole { HasProgram verdict.now → (files : List FileOf) → AreReads reads.now files
         → files_of_reads reads.now ≡ files }
@@ -97,7 +94,6 @@ pub(crate) fn verdict_output(
     reads: &[SourceRead],
     verdict: &CertVerdict,
 ) -> Result<Output, OutOfMemory>
-    requires fit { ReadsFit reads.now }
     requires stand { StandIn reads.now (refused_rows verdict.now) }
     requires whole { HasProgram verdict.now → (files : List FileOf) → AreReads reads.now files
         → files_of_reads reads.now ≡ files }

@@ -4,7 +4,6 @@ ghost use Rattle.std.specs.String.{string_bytes};
 ghost use Rattle.jn_outside.specs.Causes.{Rose};
 ghost use Rattle.jn_command.specs.Answer.{reading};
 ghost use Rattle.jn_front.specs.declared.source.SourceFile.{SourceFile as FileOf};
-ghost use Rattle.jn_front.specs.Counted.{ReadsFit};
 ghost use Rattle.jn_front.specs.Files.{AllHeld, AreReads, StartsOnly, most_files};
 ghost use Rattle.nullcheck_cert_check.specs.Inputs.{IsCertRead};
 ghost use Rattle.jn_cli.specs.Cert.{asked_of, command};
@@ -37,7 +36,6 @@ fn answer_inputs<R: Threads + Sync, K: Sink>(
     out: &mut K,
 ) -> Status
     requires few { length inputs.now.reads.items ≤ most_files }
-    requires fit { ReadsFit inputs.now.reads.items }
     requires read { (files : List FileOf) × AreReads inputs.now.reads.items files }
     requires cert { (cert : List ℕ) × IsCertRead inputs.now.cert cert }
     ensures answer { (cert : List ℕ) (files : List FileOf) → IsCertRead inputs.now.cert cert

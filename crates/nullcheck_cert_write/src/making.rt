@@ -3,7 +3,6 @@ ghost use Rattle.std.specs.Prelude.{◌≡◌, ◌≤◌, [], List, IsSome, leng
 ghost use Rattle.jn_places.specs.PlacedView.{placed_file};
 ghost use Rattle.jn_transfer.specs.Rules.{Breaks};
 ghost use Rattle.jn_inference_law.specs.Solution.{IsLeastSignature};
-ghost use Rattle.jn_front.specs.Counted.{ReadsFit};
 ghost use Rattle.jn_front.specs.declared.source.SourceFile.{SourceFile as SpecFile};
 ghost use Rattle.jn_front.specs.Files.{files_of_reads, AreReads, most_files};
 ghost use Rattle.jn_command.specs.Stands.{StandIn};
@@ -20,7 +19,7 @@ use jn_front::SourceRead;
 use jn_index::BaseTyped;
 use jn_inference_law::law::regular_programs_are_inferable;
 use jn_phases::{TypedFiles, type_files};
-use jn_sharing::Gate;
+use jn_sharing::{Gate, Workers};
 use jn_sigs::Sig;
 use jn_system::{check_all, solve_sig};
 use jn_trees::{FileTree, Names};
@@ -58,10 +57,9 @@ fn make_typed<R: Threads + Sync, G: Gate + Sync>(
     rt: &R,
     gate: &G,
     alloc: Global,
-    workers: u32,
+    workers: Workers,
     base: &BaseTyped,
 ) -> Result<CertMade, OutOfMemory>
-    requires workers { (1 ≤ workers) × (workers ≤ 16) }
     ensures { IfOk result (λ made. IsMadeOf base.now made) }
 {
     regular_programs_are_inferable();
@@ -79,14 +77,13 @@ fn make_based<R: Threads + Sync, G: Gate + Sync>(
     rt: &R,
     gate: &G,
     alloc: Global,
-    workers: u32,
+    workers: Workers,
     infer: Infer,
     reads: &[SourceRead],
     names: &Names,
     base: BaseTyped,
 ) -> Result<CertMade, OutOfMemory>
     requires program { TypedProgramOf infer (files_of_reads reads.now) names.now base }
-    requires workers { (1 ≤ workers) × (workers ≤ 16) }
     ensures { IfOk result (λ made. IsVerdict infer (files_of_reads reads.now) made) }
 {
     let _infer = infer;
@@ -102,7 +99,7 @@ fn verdict_of<R: Threads + Sync, G: Gate + Sync>(
     rt: &R,
     gate: &G,
     alloc: Global,
-    workers: u32,
+    workers: Workers,
     infer: Infer,
     reads: &[SourceRead],
     names: &Names,
@@ -110,8 +107,6 @@ fn verdict_of<R: Threads + Sync, G: Gate + Sync>(
     rows: Seq<Row>,
     base: Option<BaseTyped>,
 ) -> Result<CertMade, OutOfMemory>
-    requires workers { (1 ≤ workers) × (workers ≤ 16) }
-    requires read { (files : List SpecFile) × AreReads reads.now files }
     requires typed { (files : List SpecFile) → AreReads reads.now files
         → IsTypedOr infer files names.now (map placed_file trees.now) rows base }
     requires whole { IsSome base
@@ -142,14 +137,11 @@ pub fn find<R: Threads + Sync, G: Gate + Sync>(
     rt: &R,
     gate: &G,
     alloc: Global,
-    workers: u32,
+    workers: Workers,
     infer: Infer,
     reads: &[SourceRead],
 ) -> Result<CertMade, OutOfMemory>
-    requires workers { (1 ≤ workers) × (workers ≤ 16) }
     requires few { length reads.now ≤ most_files }
-    requires fit { ReadsFit reads.now }
-    requires read { (files : List SpecFile) × AreReads reads.now files }
     ensures found { IfOk result (λ verdict. (files : List SpecFile) → AreReads reads.now files
         → IsVerdict infer files verdict) }
     ensures stand { IfOk result (λ verdict. StandIn reads.now (rows_of verdict)) }

@@ -6,7 +6,6 @@ ghost use Rattle.jn_command.specs.Shown.{shown};
 ghost use Rattle.jn_command.specs.Reports.{rows_of as rows_of_report, status_of};
 ghost use Rattle.jn_command.specs.Stands.{StandIn};
 ghost use Rattle.jn_front.specs.declared.source.SourceFile.{SourceFile as FileOf};
-ghost use Rattle.jn_front.specs.Counted.{ReadsFit};
 ghost use Rattle.jn_front.specs.Files.{AreReads, most_files, names_of};
 ghost use Rattle.nullcheck_cert_check.specs.Told.{IsRefusalOf};
 ghost use Rattle.jn_reporters.specs.Reports.{plain_shown};
@@ -50,7 +49,6 @@ pub(crate) fn report_output(
     reads: &[SourceRead],
     report: Report,
 ) -> Result<Output, OutOfMemory>
-    requires fit { ReadsFit reads.now }
     requires stand { StandIn reads.now (rows_of_report report) }
     ensures status { IfOk result (λ o. o.status ≡ status_of report) }
     ensures bytes { IfOk result (λ o. (files : List FileOf) → AreReads reads.now files
@@ -123,7 +121,6 @@ pub(crate) fn tell<K: Sink, T: Targets>(
     out: &mut K,
     target: &mut T,
 ) -> Status
-    requires fit { ReadsFit reads.now }
     requires stand { StandIn reads.now (rows_of made) }
     ensures answer { (infer : Infer) (files : List FileOf) → AreReads reads.now files
         → IsVerdict infer files made

@@ -4,7 +4,6 @@ ghost use Rattle.std.specs.String.{string_bytes};
 ghost use Rattle.jn_outside.specs.Causes.{Rose};
 ghost use Rattle.jn_command.specs.Answer.{reading};
 ghost use Rattle.jn_front.specs.declared.source.SourceFile.{SourceFile as FileOf};
-ghost use Rattle.jn_front.specs.Counted.{ReadsFit};
 ghost use Rattle.jn_front.specs.Files.{AllHeld, AreReads, StartsOnly, most_files};
 ghost use Rattle.jn_cert_form.specs.Form.{magic};
 ghost use Rattle.jn_targets.specs.Replacing.{takes_other};
@@ -20,7 +19,7 @@ use jn_command::Status;
 use jn_command::output::{finish, write};
 use jn_front::{SourceRead, read_all};
 use jn_outside::{Files, Sink};
-use jn_sharing::Gate;
+use jn_sharing::{Gate, Workers};
 use jn_targets::Targets;
 use std::alloc::Global;
 use std::thread::Threads;
@@ -43,8 +42,6 @@ fn answer_reads<R: Threads + Sync, G: Gate + Sync, K: Sink, T: Targets>(
     target: &mut T,
 ) -> Status
     requires few { length reads.now ≤ most_files }
-    requires fit { ReadsFit reads.now }
-    requires read { (files : List FileOf) × AreReads reads.now files }
     ensures answer { (files : List FileOf) → AreReads reads.now files
         → AnswersFiles infer name.now files
         (outcome (K.written out.old) (K.written out.new) (T.replaced target.old) (T.replaced target.new))
@@ -57,7 +54,7 @@ fn answer_reads<R: Threads + Sync, G: Gate + Sync, K: Sink, T: Targets>(
     ensures other { takes_other (T.there target.old) name.now magic ≡ true
         → T.replaced target.new ≡ T.replaced target.old }
 {
-    match find(rt, gate, alloc, WORKERS, infer, reads) {
+    match find(rt, gate, alloc, Workers::of(WORKERS), infer, reads) {
         Ok(made) => tell(alloc, name, reads, made, out, target),
         Err(_) => Status::OutOfMemory,
     }

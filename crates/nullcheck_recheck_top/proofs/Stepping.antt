@@ -1,6 +1,6 @@
 -- Steps that are carried out one after the other.
 use Rattle.std.proofs.Common.{◌≡◌, ℕ, ◌+◌, ◌<◌, ◌≤◌, true, false, List, [], ◌∷◌, ◌++◌, length, map, take, Option, Some, None, Ok as Made, Err, inl, inr, refl, sym, ap, ◌∙◌, subst, arith, append-nil}
-use Rattle.std.specs.Prelude.{IfOk, Result, replicate}
+use Rattle.std.specs.Prelude.{Bool, IfOk, Result, cond, replicate}
 use Rattle.jn_outside.specs.declared.given.Given.{Given}
 use Rattle.jn_outside.specs.Files.{Holding}
 use Rattle.jn_outside.specs.Gave.{given, GivesTooMany}
@@ -13,7 +13,7 @@ use Rattle.jn_diag.specs.declared.shown.RowText.{RowText}
 use Rattle.jn_diag.specs.declared.shown.Verdict.{Verdict}
 use Rattle.jn_front.specs.declared.source.SourceFile.{SourceFile}
 use Rattle.jn_front.specs.declared.source.SourceRead.{SourceRead}
-use Rattle.jn_front.specs.Files.{AreHeld, AreReads, file_limit, given_of, names_of, read_as}
+use Rattle.jn_front.specs.Files.{AreHeld, AreReads, file_limit, given_of, names_of}
 use Rattle.jn_front.proofs.Reading.{read_large_from, read_whole_from}
 use Rattle.jn_recheck.specs.Sessions.{Reports, SessionOf}
 use Rattle.jn_script.specs.declared.step.Step.TheVariants.{Empty, Set, Remove, Check}
@@ -66,17 +66,24 @@ large_text held name text old new read (file ∷ []) whole is named told gave (i
     one e = cc
 large_text held name text old new read (file ∷ (other ∷ files)) whole is named told gave are = absurd are.1
 
+abbrev read_as : (name bytes : List ℕ) (whole : Bool) → length bytes ≤ cond whole 1048576 0 → SourceRead
+read_as name bytes whole le = record { file = record { name = name; bytes = bytes }; whole = whole; kept = le }
+
+-- the name alone
+abbrev passed : List ℕ → SourceRead
+passed name = read_as name [] false (omega arith)
+
 -- a file that was read whole
 pub text_whole : (held : Option Holding) (name text : List ℕ) (old new : List Given) → Gives held name text → length text ≤ file_limit → new ≡ old ++ given name text ∷ [] → TextFrom held name old new text
 text_whole held name text old new told le gave =
-    let from = read_whole_from {E = Unit {0}} held old new name text (Made (read_as name text true)) refl told le gave in
-    whole_text held name text old new (read_as name text true) from.files refl refl from.named from.told from.given from.are
+    let from = read_whole_from {E = Unit {0}} held old new name text (Made (read_as name text true le)) (refl, refl) told le gave in
+    whole_text held name text old new (read_as name text true le) from.files refl refl from.named from.told from.given from.are
 
 -- one that is too large
 pub text_large : (held : Option Holding) (name text : List ℕ) (old new : List Given) → GivesTooMany held name file_limit old new → text ≡ spaces (file_limit + 1) → TextFrom held name old new text
 text_large held name text old new many is =
-    let from = read_large_from {E = Unit {0}} held old new name [] (Made (read_as name [] false)) refl refl many in
-    large_text held name text old new (read_as name [] false) from.files refl is from.named from.told from.given from.are
+    let from = read_large_from {E = Unit {0}} held old new name [] (Made (passed name)) refl (refl, refl) many in
+    large_text held name text old new (passed name) from.files refl is from.named from.told from.given from.are
 
 pub text_spaces : {V E : Type 0} (items : V → List ℕ) (r : Result V E) (held : Option Holding) (name : List ℕ) (old new : List Given) → GivesTooMany held name file_limit old new → IfOk r (λ v. items v ≡ spaces (file_limit + 1)) → IfOk r (λ v. TextFrom held name old new (items v))
 text_spaces items (Made v) held name old new many is = text_large held name (items v) old new many is
@@ -93,7 +100,7 @@ pub record ScriptFrom (held : Option Holding) (name : List ℕ) (old new : List 
   pub given : new ≡ old ++ given name (take (file_limit + 1) script) ∷ []
   pub long : file_limit < length script
 
-large_script : (held : Option Holding) (name : List ℕ) (old new : List Given) (files : List SourceFile) → names_of files ≡ name ∷ [] → AreHeld held files → new ≡ old ++ map given_of files → AreReads (read_as name [] false ∷ []) files → ScriptFrom held name old new
+large_script : (held : Option Holding) (name : List ℕ) (old new : List Given) (files : List SourceFile) → names_of files ≡ name ∷ [] → AreHeld held files → new ≡ old ++ map given_of files → AreReads (passed name ∷ []) files → ScriptFrom held name old new
 large_script held name old new [] named told gave are = absurd are
 large_script held name old new (file ∷ []) named told gave (inl w, are) = absurd (both w.0)
   where
@@ -114,7 +121,7 @@ large_script held name old new (file ∷ (other ∷ files)) named told gave are 
 
 pub script_large : (held : Option Holding) (name : List ℕ) (old new : List Given) → GivesTooMany held name file_limit old new → ScriptFrom held name old new
 script_large held name old new many =
-    let from = read_large_from {E = Unit {0}} held old new name [] (Made (read_as name [] false)) refl refl many in
+    let from = read_large_from {E = Unit {0}} held old new name [] (Made (passed name)) refl (refl, refl) many in
     large_script held name old new from.files from.named from.told from.given from.are
 
 -- ---- one step

@@ -16,7 +16,7 @@ use jn_command::output::Output;
 use jn_outside::{Failed, Files, ReadFail, Sink, read_whole, write_whole};
 use jn_recheck::Session;
 use jn_script::Step;
-use jn_sharing::Gate;
+use jn_sharing::{Gate, Workers};
 use std::alloc::{AllocError, Global};
 use std::thread::Threads;
 
@@ -133,7 +133,7 @@ fn check_step<R: Threads + Sync, K: Sink, G: Gate + Sync>(
         session.old last Step.Check session.new result }
     ensures unread { result ≢ Taken.Ends Status.ReadFault }
 {
-    let Ok(checked) = session.report(rt, WORKERS, gate, gate) else {
+    let Ok(checked) = session.report(rt, Workers::of(WORKERS), gate, gate) else {
         return Taken::Ends(Status::OutOfMemory);
     };
     match check_output(alloc, &checked) {

@@ -9,7 +9,7 @@ use jn_base::Infer;
 use jn_outside::{MemFile, MemFiles, MemSink};
 use jn_recheck::Session;
 use jn_script::{Step, read_script};
-use jn_sharing::Straight;
+use jn_sharing::{Straight, Workers};
 use nullcheck_recheck_top::recheck;
 use std::alloc::{AllocError, Global};
 use std::io;
@@ -113,7 +113,10 @@ fn take_step<R: Threads + Sync>(
         Step::Check => {
             let solving = Counting::new();
             let bodies = Counting::new();
-            if session.report(threads, 1, &solving, &bodies).is_err() {
+            if session
+                .report(threads, Workers::of(1), &solving, &bodies)
+                .is_err()
+            {
                 return Err(io::Error::from(AllocError));
             }
             let taken = solving.entries();

@@ -1,5 +1,5 @@
 -- The notes of a report's rows.
-use Rattle.std.proofs.Common.{◌≡◌, ◌≤◌, ◌<◌, ℕ, zero, suc, Bool, true, false, List, [], ◌∷◌, ◌++◌, length, map, get_or, Option, Some, None, Result, Ok, Err, refl, sym, ap, ◌∙◌, subst, arith}
+use Rattle.std.proofs.Common.{◌≡◌, ◌≤◌, ◌<◌, ℕ, zero, suc, Bool, true, false, List, [], ◌∷◌, ◌++◌, length, map, get_or, Some, None, Result, Ok, Err, refl, sym, ap, ◌∙◌, subst, arith}
 use Rattle.std.specs.Prelude.{IfOk}
 use Rattle.std.proofs.lemmas.Result.{IfOk-weaker}
 use Rattle.jn_base.specs.declared.infer.Infer.{Infer}
@@ -11,9 +11,7 @@ use Rattle.jn_points.specs.declared.program.Program.{Program}
 use Rattle.jn_inference_law.specs.Solution.{IsLeastSignature}
 use Rattle.jn_front.specs.declared.source.SourceFile.{SourceFile}
 use Rattle.jn_front.specs.declared.source.SourceRead.{SourceRead}
-use Rattle.jn_front.specs.Counted.{ReadsFit}
 use Rattle.jn_front.specs.Files.{AreReads, files_of_reads}
-use Rattle.jn_front.proofs.Loops.{fits_at}
 use Rattle.jn_command.specs.declared.noted.Noted.{Noted}
 use Rattle.jn_command.specs.declared.report.Report.{Report}
 use Rattle.jn_command.specs.declared.report.Report.TheVariants.{Refused, Checked}
@@ -55,9 +53,6 @@ pub noted_behind_last : (f : Notes → Noted) (notes : List Notes) (at : ℕ) (n
 noted_behind_last f notes at noted le is = is ∙ sym (behind f notes at le)
 
 -- ---- files with marks
-
-pub one_fits : (reads : List SourceRead) (i : ℕ) (read : SourceRead) → ReadsFit reads → i < length reads → read ≡ get_or reads i read → length read.file.bytes ≤ 1048576
-one_fits reads i read fit lt is = subst (λ (r : SourceRead). length r.file.bytes ≤ 1048576) (sym is) (fits_at reads i read fit lt)
 
 -- a note of no file is the same among any files that don't have it
 pub note_in_none : {E : Type 0} (reads : List SourceRead) (joined ends : Bool) (words : List ℕ) (span : Span) (r : Result ShownNote E) → length reads ≤ span.file.0 → IfOk r (λ n. n ≡ note_of (files_of_reads []) joined ends words span) → IfOk r (λ n. n ≡ note_of (files_of_reads reads) joined ends words span)

@@ -11,7 +11,6 @@ ghost use Rattle.nullcheck_top.specs.CommandAnswer.{HoldsFiles, ReadsNothing, St
 ghost use Rattle.jn_command.specs.Made.{front_of, made_file, made_text};
 ghost use Rattle.jn_command.specs.Reports.{rows_of};
 ghost use Rattle.jn_command.specs.Stands.{StandIn};
-ghost use Rattle.jn_front.specs.Counted.{ReadsFit};
 ghost use Rattle.jn_front.specs.declared.source.SourceFile.{SourceFile as FileOf};
 ghost use Rattle.jn_front.specs.Files.{AllHeld, AreReads, IsReadOf, StartsOnly, most_files};
 ghost use Rattle.nullcheck_top.specs.Answers.{Answers, AnswersFiles};
@@ -78,11 +77,9 @@ fn answer_checked<R: Threads + Sync, P: Reporter, K: Sink>(
     out: &mut K,
 ) -> Status
     requires front { front.now ≡ front_of (P.form reporter).document command.now.classes }
-    requires fit { ReadsFit reads.now }
     requires stand { StandIn reads.now (rows_of checked.now.found.report) }
     requires found { (files : List FileOf) → AreReads reads.now files
         → IsFinding command.now.infer files checked.now.names checked.now.found }
-    requires read { (files : List FileOf) × AreReads reads.now files }
     requires whole { AreWhole checked.now.found.report reads.now }
     requires trees { AreAtHand reads.now checked.now.found.report checked.now.names
         (map placed_file checked.now.trees.items) }
@@ -135,11 +132,8 @@ fn answer_reads<R: Threads + Sync, G: Gate + Sync, P: Reporter, K: Sink>(
     front: &[u8],
     out: &mut K,
 ) -> Status
-    requires workers { (1 ≤ command.now.workers) × (command.now.workers ≤ 16) }
     requires front { front.now ≡ front_of (P.form reporter).document command.now.classes }
     requires few { length reads.now ≤ most_files }
-    requires fit { ReadsFit reads.now }
-    requires read { (files : List FileOf) × AreReads reads.now files }
     ensures answer { (files : List FileOf) → AreReads reads.now files
         → AnswersFiles (asked_with command.now (P.form reporter)) files
         (K.written out.old) (K.written out.new) result }
@@ -181,7 +175,6 @@ fn answer_made<R: Threads + Sync, G: Gate + Sync, P: Reporter, K: Sink>(
     reporter: P,
     out: &mut K,
 ) -> Status
-    requires workers { (1 ≤ command.now.workers) × (command.now.workers ≤ 16) }
     requires some { 1 ≤ command.now.classes }
     requires most { command.now.classes ≤ 500 }
     ensures answer { AnswersFiles
@@ -212,7 +205,6 @@ fn answer_named<R: Threads + Sync, G: Gate + Sync, P: Reporter, F: Files, K: Sin
 ) -> Status
     requires classes { command.now.classes ≡ 0 }
     requires named { map string_bytes names.now ≡ command.now.files }
-    requires workers { (1 ≤ command.now.workers) × (command.now.workers ≤ 16) }
     ensures answer { Answers (reading (F.held files.old) (F.gave files.old) (F.gave files.new))
         (Some (asked_with command.now (P.form reporter)))
         (K.written out.old) (K.written out.new) result }
@@ -250,7 +242,6 @@ pub fn answer_command<R: Threads + Sync, G: Gate + Sync, P: Reporter, F: Files, 
     files: &mut F,
     out: &mut K,
 ) -> Status
-    requires workers { (1 ≤ command.now.workers) × (command.now.workers ≤ 16) }
     requires classes { command.now.classes ≤ 500 }
     ensures answer { Answers (reading (F.held files.old) (F.gave files.old) (F.gave files.new))
         (Some (asked_with command.now (P.form reporter)))

@@ -3,7 +3,6 @@ ghost use Rattle.std.specs.Prelude.{◌≡◌, ◌≤◌, ◌<◌, ◌∷◌, []
 ghost use Rattle.jn_base.specs.declared.code.Code.TheVariants.{B1};
 ghost use Rattle.jn_places.specs.PlacedView.{placed_file};
 ghost use Rattle.jn_base.specs.declared.infer.Infer.{Infer as SpecInfer};
-ghost use Rattle.jn_front.specs.Counted.{ReadsFit};
 ghost use Rattle.jn_front.specs.declared.source.SourceFile.{SourceFile as SpecFile};
 ghost use Rattle.jn_front.specs.Files.{files_of_reads, AreReads, most_files};
 ghost use Rattle.jn_front.specs.Limits.{row_at};
@@ -24,6 +23,7 @@ use jn_front::SourceRead;
 use jn_index::BaseTyped;
 use jn_inference_law::law::regular_programs_are_inferable;
 use jn_phases::{TypedFiles, too_many_files, type_files};
+use jn_sharing::Workers;
 use jn_sigs::Sig;
 use jn_system::{check_all, solve_sig};
 use jn_trees::{FileTree, Names};
@@ -65,7 +65,7 @@ fn found_by(rows: Vec<Row>, made: Result<Accepted, (BaseTyped, Sig)>) -> Found
 fn checked<R: Threads + Sync, G: Gate + Sync>(
     rt: &R,
     alloc: Global,
-    workers: u32,
+    workers: Workers,
     infer: Infer,
     reads: &[SourceRead],
     names: &Names,
@@ -73,7 +73,6 @@ fn checked<R: Threads + Sync, G: Gate + Sync>(
     gate: &G,
 ) -> Result<Found, OutOfMemory>
     requires program { TypedProgramOf infer (files_of_reads reads.now) names.now base }
-    requires workers { (1 ≤ workers) × (workers ≤ 16) }
     ensures { IfOk result (λ found. IsFinding infer (files_of_reads reads.now) names.now found) }
 {
     regular_programs_are_inferable();
@@ -87,7 +86,7 @@ fn checked<R: Threads + Sync, G: Gate + Sync>(
 fn find<R: Threads + Sync, G: Gate + Sync>(
     rt: &R,
     alloc: Global,
-    workers: u32,
+    workers: Workers,
     infer: Infer,
     reads: &[SourceRead],
     names: &Names,
@@ -96,8 +95,6 @@ fn find<R: Threads + Sync, G: Gate + Sync>(
     base: Option<BaseTyped>,
     gate: &G,
 ) -> Result<Found, OutOfMemory>
-    requires workers { (1 ≤ workers) × (workers ≤ 16) }
-    requires read { (files : List SpecFile) × AreReads reads.now files }
     requires typed { (files : List SpecFile) → AreReads reads.now files
         → IsTypedOr infer files names.now (map placed_file trees.now) rows base }
     requires whole { IsSome base
@@ -128,14 +125,11 @@ pub fn check<R: Threads + Sync, G: Gate + Sync>(
     rt: &R,
     gate: &G,
     alloc: Global,
-    workers: u32,
+    workers: Workers,
     infer: Infer,
     reads: &[SourceRead],
 ) -> Result<CheckedFiles, OutOfMemory>
-    requires workers { (1 ≤ workers) × (workers ≤ 16) }
     requires few { length reads.now ≤ most_files }
-    requires fit { ReadsFit reads.now }
-    requires read { (files : List SpecFile) × AreReads reads.now files }
     ensures found { IfOk result (λ checked. (files : List SpecFile) → AreReads reads.now files
         → IsFinding infer files checked.names checked.found) }
     ensures whole { IfOk result (λ checked. AreWhole checked.found.report reads.now) }

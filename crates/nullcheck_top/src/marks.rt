@@ -3,7 +3,6 @@ ghost use Rattle.std.specs.Prelude.{◌≡◌, ◌≤◌, All, Some, IfOk, lengt
 ghost use Rattle.jn_base.specs.Place.{place_in};
 ghost use Rattle.jn_command.specs.Shown.{note_of_file};
 ghost use Rattle.jn_diag.specs.Sweep.{IsPosition};
-ghost use Rattle.jn_front.specs.Counted.{ReadsFit};
 
 use jn_base::{FileNo, OutOfMemory, Place, Seq, Span, Text};
 use jn_diag::{Position, place_behind};
@@ -97,7 +96,6 @@ fn place_from(text: &[u8], marks: &[Position], at: &Span) -> Place
 
 impl<'a> MarkedFile<'a> {
     pub(crate) fn new(alloc: Global, read: &'a SourceRead) -> Result<MarkedFile<'a>, OutOfMemory>
-        requires { length read.now.file.bytes ≤ 1048576 }
         ensures { IfOk result (λ file. file ≡ read.now) }
     {
         let marks = marks_of(alloc, read.file.bytes.as_slice())?;
@@ -140,7 +138,6 @@ pub(crate) fn marked<'a>(
     alloc: Global,
     reads: &'a [SourceRead],
 ) -> Result<Vec<MarkedFile<'a>>, OutOfMemory>
-    requires { ReadsFit reads.now }
     ensures { IfOk result (λ files. files.items ≡ reads.now) }
 {
     let mut files = Vec::new(alloc);

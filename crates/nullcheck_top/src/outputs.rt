@@ -9,7 +9,6 @@ ghost use Rattle.jn_command.specs.Reports.{rows_of, status_of, verdict_of};
 ghost use Rattle.jn_command.specs.Shown.{rows_with};
 ghost use Rattle.jn_command.specs.Stands.{StandIn};
 ghost use Rattle.jn_front.specs.declared.source.SourceFile.{SourceFile as FileOf};
-ghost use Rattle.jn_front.specs.Counted.{ReadsFit};
 ghost use Rattle.jn_front.specs.Files.{AreReads, files_of_reads, most_files, names_of};
 ghost use Rattle.jn_inference_law.specs.Solution.{IsLeastSignature};
 ghost use Rattle.jn_notes.specs.Noted.{AreNotesOf};
@@ -58,8 +57,6 @@ fn show_found<R: Threads + Sync, P: Reporter>(
     found: &Found,
     reporter: P,
 ) -> Result<P, OutOfMemory>
-    requires fit { ReadsFit reads.now }
-    requires read { (files : List FileOf) × AreReads reads.now files }
     requires stand { StandIn reads.now (rows_of found.now.report) }
     requires found { (infer : Infer) × ((files : List FileOf) → AreReads reads.now files
         → IsFinding infer files names.now found.now) }
@@ -108,8 +105,6 @@ fn show_checked<P: Reporter>(
     found: &Found,
     reporter: P,
 ) -> Result<P, OutOfMemory>
-    requires fit { ReadsFit reads.now }
-    requires read { (files : List FileOf) × AreReads reads.now files }
     requires found { (infer : Infer) × ((files : List FileOf) → AreReads reads.now files
         → IsFinding infer files names.now found.now) }
     requires whole { AreWhole found.now.report reads.now }
@@ -141,7 +136,6 @@ fn show_with<P: Reporter>(
     notes: &[Notes],
     reporter: P,
 ) -> Result<P, OutOfMemory>
-    requires fit { ReadsFit reads.now }
     ensures rows { IfOk result (λ shower. (P.form shower).rows
         ≡ (P.form reporter).rows
         ++ rows_with (files_of_reads reads.now) (map (placed (files_of_reads reads.now)) notes.now)
@@ -193,8 +187,6 @@ pub(crate) fn report_output<R: Threads + Sync, P: Reporter>(
     front: &[u8],
     reporter: P,
 ) -> Result<Output, OutOfMemory>
-    requires fit { ReadsFit reads.now }
-    requires read { (files : List FileOf) × AreReads reads.now files }
     requires stand { StandIn reads.now (rows_of found.now.report) }
     requires found { (infer : Infer) × ((files : List FileOf) → AreReads reads.now files
         → IsFinding infer files names.now found.now) }

@@ -8,6 +8,7 @@ ghost use Rattle.std.specs.Prelude.{◌<◌, ◌≤◌};
 
 use end::End;
 use jn_base::OutOfMemory;
+use jn_sharing::Workers;
 use jn_solver_samples::{drained, solved};
 use request::{Request, request_of};
 use std::alloc::Global;
@@ -49,7 +50,7 @@ fn solve_once<R: Threads + Sync>(
     if request.workers == 0 {
         drained(alloc, &request.net)
     } else {
-        solved(rt, alloc, request.net, request.workers)
+        solved(rt, alloc, request.net, Workers::of(request.workers))
     }
 }
 

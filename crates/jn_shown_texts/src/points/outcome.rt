@@ -9,6 +9,7 @@ use jn_lex_shared::known_names;
 use jn_lexer::lex;
 use jn_parse_placed::parse_placed;
 use jn_program::lowering::lower;
+use jn_sharing::Workers;
 use jn_trees::{FileTree, Names, Token};
 use std::alloc::{AllocError, Global};
 use std::thread::Threads;
@@ -51,7 +52,7 @@ fn lowered<R: Threads + Sync>(
     files: &[FileTree],
 ) -> Result<IndexedProgram, Fail<Seq<Row>>> {
     match build(alloc, files, Infer::Private) {
-        Ok(table) => lower(rt, alloc, table, files, WORKERS),
+        Ok(table) => lower(rt, alloc, table, files, Workers::of(WORKERS)),
         Err(fail) => Err(fail),
     }
 }

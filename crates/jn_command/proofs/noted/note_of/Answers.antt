@@ -1,14 +1,6 @@
-use Rattle.std.proofs.Common.{length, ap, refl, arith}
-use Rattle.jn_front.specs.declared.source.SourceRead.{SourceRead}
-use Rattle.jn_front.proofs.Loops.{fits_at}
+use Rattle.std.proofs.Common.{refl}
 use Rattle.jn_command.proofs.Showing.{note_nowhere, note_there}
 use Rattle.jn_command.proofs.noted.note_of.Goals as goal
-
-pub note_in-requires : goal.note_in-requires
-note_in-requires c =
-    let fit = fits_at c.args.reads.now c.args.span.now.file.0 c.index-reads-file.result c.requires c.if-file-reads.true in
-    let same = ap (λ (r : SourceRead). length r.file.bytes) c.index-reads-file.is in
-    omega (arith, fit, same)
 
 pub returns-then-file-reads : goal.returns-then-file-reads
 returns-then-file-reads c = note_there c.args.reads.now c.args.span.now.file.0 c.index-reads-file.result c.args.joined c.args.ends c.args.words.now c.args.span.now c.note_in.result refl c.if-file-reads.true c.index-reads-file.is c.note_in.ensures

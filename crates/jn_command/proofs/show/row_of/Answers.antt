@@ -1,20 +1,12 @@
-use Rattle.std.proofs.Common.{length, ap, refl, sym, ◌∙◌, subst, arith}
+use Rattle.std.proofs.Common.{ap, refl, sym, ◌∙◌, subst}
 use Rattle.std.specs.Prelude.{slice_get}
 use Rattle.jn_diag.specs.Sweep.{IsPosition}
-use Rattle.jn_front.specs.declared.source.SourceRead.{SourceRead}
-use Rattle.jn_front.proofs.Loops.{fits_at}
 use Rattle.jn_command.specs.Stands.{bytes_of}
 use Rattle.jn_command.proofs.Showing.{row_there, row_nowhere, bytes_there, turned, turned_file}
 use Rattle.jn_command.proofs.show.row_of.Goals as goal
 
-pub row_in-requires-clause-fits : goal.row_in-requires-clause-fits
-row_in-requires-clause-fits c =
-    let fit = fits_at c.args.reads.now c.args.row.now.span.file.0 c.index-reads-file.result c.requires.fit c.if-file-reads.true in
-    let same = ap (λ (r : SourceRead). length r.file.bytes) c.index-reads-file.is in
-    omega (arith, fit, same)
-
-pub row_in-requires-clause-is : goal.row_in-requires-clause-is
-row_in-requires-clause-is c = turned c.args.reads.now c.args.place.now c.place_in.result c.args.row.now.span.file.0 c.index-reads-file.result c.requires.is c.place_in.ensures c.if-file-reads.true c.index-reads-file.is
+pub row_in-requires : goal.row_in-requires
+row_in-requires c = record { is = turned c.args.reads.now c.args.place.now c.place_in.result c.args.row.now.span.file.0 c.index-reads-file.result c.requires.is c.place_in.ensures c.if-file-reads.true c.index-reads-file.is }
 
 pub returns-then-file-reads-clause-shown : goal.returns-then-file-reads-clause-shown
 returns-then-file-reads-clause-shown c = row_there c.args.reads.now c.args.row.now.span.file.0 c.index-reads-file.result c.args.row.now c.args.noted.now c.row_in.result refl c.if-file-reads.true c.index-reads-file.is c.row_in.ensures.shown

@@ -9,4 +9,4 @@ use Rattle.jn_declaration_rules.proofs.clashes.overrides_named.Goals as goal
 pub loop-k-init : goal.loop-k-init
 loop-k-init c =
     ap (members.some_of (λ k. passes (λ y. members.is_pair c.args.program.now c.args.m k && not (spec.agrees c.args.program.now c.args.over.now y)) (method_at c.args.program.now k))) c.named-named.ensures
-    ∙ clashes_named c.args.program.now c.args.index.now c.args.m c.args.over.now c.requires.is c.requires.there
+    ∙ clashes_named c.args.program.now c.index-index.result.now c.args.m c.args.over.now c.index-index.ensures c.requires.there

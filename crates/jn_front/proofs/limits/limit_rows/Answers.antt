@@ -1,34 +1,22 @@
-use Rattle.std.proofs.Common.{◌+◌, length, ap, ◌∙◌, arith}
-use Rattle.jn_front.specs.declared.source.SourceRead.{SourceRead}
+use Rattle.std.proofs.Common.{◌+◌, ap, ◌∙◌, arith}
 use Rattle.jn_front.specs.Counted.{counted_read}
-use Rattle.jn_front.proofs.Loops.{fits_at, counted_small, rows_step, limits_end}
+use Rattle.jn_front.proofs.Kept.{read_fits}
+use Rattle.jn_front.proofs.Loops.{counted_small, rows_step, limits_end}
 use Rattle.jn_front.proofs.limits.limit_rows.Goals as goal
-
-pub counted-size-requires : goal.counted-size-requires
-counted-size-requires c =
-    let fit = fits_at c.args.reads.now c.reads.read-index c.read-item.result c.requires.fit c.reads-test.true in
-    let same = ap (λ (r : SourceRead). length r.file.bytes) c.read-item.is in
-    omega (arith, fit, same)
 
 pub put_passing-requires : goal.put_passing-requires
 put_passing-requires c =
-    let fit = fits_at c.args.reads.now c.reads.read-index c.read-item.result c.requires.fit c.reads-test.true in
-    let same = ap (λ (r : SourceRead). length r.file.bytes) c.read-item.is in
-    let small = counted_small c.read-item.result (omega (arith, fit, same)) in
+    let small = counted_small c.read-item.result (read_fits c.read-item.result) in
     omega (arith, small, c.counted-size.ensures, c.reads.invariant.few, c.reads-test.true, c.requires.few)
 
 pub overflow_add-before : goal.overflow_add-before
 overflow_add-before c =
-    let fit = fits_at c.args.reads.now c.reads.read-index c.read-item.result c.requires.fit c.reads-test.true in
-    let same = ap (λ (r : SourceRead). length r.file.bytes) c.read-item.is in
-    let small = counted_small c.read-item.result (omega (arith, fit, same)) in
+    let small = counted_small c.read-item.result (read_fits c.read-item.result) in
     omega (arith, small, c.counted-size.ensures, c.reads.invariant.few, c.reads-test.true, c.requires.few)
 
 pub reads-preserved : goal.reads-preserved
 reads-preserved c =
-    let fit = fits_at c.args.reads.now c.reads.read-index c.read-item.result c.requires.fit c.reads-test.true in
-    let same = ap (λ (r : SourceRead). length r.file.bytes) c.read-item.is in
-    let small = counted_small c.read-item.result (omega (arith, fit, same)) in
+    let small = counted_small c.read-item.result (read_fits c.read-item.result) in
     record {
       number = ap (λ n. n + 1) c.reads.invariant.number;
       few = omega (arith, small, c.counted-size.ensures, c.reads.invariant.few);

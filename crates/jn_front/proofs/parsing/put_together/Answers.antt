@@ -32,7 +32,7 @@ pub join_all-requires-clause-many : goal.join_all-requires-clause-many
 join_all-requires-clause-many g c κs within = let many = as_many 0 c.args.reads.now c.args.outcomes.items c.requires.found in omega (arith, many, c.requires.few)
 
 pub join_all-requires-clause-few : goal.join_all-requires-clause-few
-join_all-requires-clause-few g c κs within = few_names c.texts_have_few_tokens.ensures.names 0 c.args.reads.now c.args.outcomes.items c.requires.fit c.requires.found
+join_all-requires-clause-few g c κs within = few_names c.texts_have_few_tokens.ensures.names 0 c.args.reads.now c.args.outcomes.items c.requires.found
 
 pub returns-clause-trees : goal.returns-clause-trees
 returns-clause-trees g c empty =

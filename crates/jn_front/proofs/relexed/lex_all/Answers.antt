@@ -1,13 +1,14 @@
 use Rattle.std.proofs.Common.{◌≡◌, ◌∙◌, length, ap, sym, subst, arith}
 use Rattle.jn_front.specs.declared.source.SourceRead.{SourceRead}
 use Rattle.jn_lexer.specs.Lexed.{Lexed}
-use Rattle.jn_front.proofs.Relexing.{all_lexed, at_place, fits_at, lexes, next}
+use Rattle.jn_front.proofs.Kept.{read_fits}
+use Rattle.jn_front.proofs.Relexing.{all_lexed, at_place, lexes, next}
 use Rattle.jn_front.proofs.relexed.lex_all.Goals as goal
 
 pub lex_again-requires-clause-few : goal.lex_again-requires-clause-few
 lex_again-requires-clause-few c =
     let read = c.index-reads-file.result in
-    let fits = fits_at c.args.reads.now c.loop-file.file read read c.loop-file-test.true c.index-reads-file.is c.requires.fit in
+    let fits = read_fits read in
     let text = c.as_slice-text.ensures ∙ ap (λ (r : SourceRead). r.file.bytes) (sym c.index-reads-file.is) in
     let size : length c.as_slice-text.result.now ≡ length read.file.bytes = ap length text in
     let lt = c.loop-file-test.true in
@@ -27,7 +28,7 @@ pub loop-file-preserved : goal.loop-file-preserved
 loop-file-preserved c =
     let read = c.index-reads-file.result in
     let here = at_place c.args.reads.now c.loop-file.file read read c.loop-file-test.true c.index-reads-file.is in
-    let fits = fits_at c.args.reads.now c.loop-file.file read read c.loop-file-test.true c.index-reads-file.is c.requires.fit in
+    let fits = read_fits read in
     let text = c.as_slice-text.ensures ∙ ap (λ (r : SourceRead). r.file.bytes) (sym c.index-reads-file.is) in
     let lexed = subst (λ text. Lexed (record { 0 = c.loop-file.file }) text c.loop-file.names c.in_ok-tokens.tokens c.lex_again.new.names) text c.in_ok-tokens.ensures in
     let more = c.texts_have_few_tokens.ensures.names (record { 0 = c.loop-file.file }) read.file.bytes c.loop-file.names c.in_ok-tokens.tokens c.lex_again.new.names lexed in

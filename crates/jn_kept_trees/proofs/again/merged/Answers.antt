@@ -11,7 +11,7 @@ use Rattle.jn_kept_trees.proofs.Stays.{AreTold, are_among, stay_placed}
 use Rattle.jn_kept_trees.proofs.again.merged.Goals as goal
 
 pub merge_all-requires-clause-fit : goal.merge_all-requires-clause-fit
-merge_all-requires-clause-fit g c = kept_fit c.texts_have_few_tokens.ensures.names c.args.reads.now c.args.kept.items c.requires.fit c.requires.long c.requires.kept
+merge_all-requires-clause-fit g c = kept_fit c.texts_have_few_tokens.ensures.names c.args.reads.now c.args.kept.items c.requires.long c.requires.kept
 
 pub returns-clause-trees : goal.returns-clause-trees
 returns-clause-trees g c =

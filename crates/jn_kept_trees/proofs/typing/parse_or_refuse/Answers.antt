@@ -1,4 +1,5 @@
 use Rattle.jn_kept_trees.proofs.Found.{limits_typed, texts_typed, trees_parsed}
+use Rattle.jn_front.proofs.Kept.{read_from}
 use Rattle.jn_kept_trees.proofs.typing.parse_or_refuse.Goals as goal
 
 pub returns-then-not-no_rows-clause-refused : goal.returns-then-not-no_rows-clause-refused
@@ -10,7 +11,7 @@ pub returns-then-no_rows-clause-parsed : goal.returns-then-no_rows-clause-parsed
 returns-then-no_rows-clause-parsed g c =
     let none = c.no_rows-2.ensures.none c.if-no_rows.true in
     let made = c.in_ok-parsed.ensures in
-    trees_parsed c.args.reads.now c.in_ok-limits.limits.items c.in_ok-limits.ensures (c.no_rows.ensures.none c.if-not-no_rows.false) c.requires.read c.in_ok-parsed.parsed (made.trees none) (made.texts none)
+    trees_parsed c.args.reads.now c.in_ok-limits.limits.items c.in_ok-limits.ensures (c.no_rows.ensures.none c.if-not-no_rows.false) (read_from c.args.reads.now) c.in_ok-parsed.parsed (made.trees none) (made.texts none)
 
 pub returns-then-no_rows-clause-same : goal.returns-then-no_rows-clause-same
 returns-then-no_rows-clause-same g c = c.in_ok-parsed.ensures.same (c.no_rows-2.ensures.none c.if-no_rows.true)

@@ -1,20 +1,16 @@
-use Rattle.std.proofs.Common.{List, sym, subst, ◌∙◌}
-use Rattle.jn_quals.specs.Qualifier.{Qualifier}
-use Rattle.jn_env.specs.Order.{Table}
+use Rattle.std.proofs.Common.{sym, subst, ◌∙◌}
 use Rattle.jn_reasons_law.specs.Items.{Stands}
 use Rattle.jn_reasons_law.specs.Chains.{HasChain}
+use Rattle.jn_notes.specs.Walked.{Subject}
 use Rattle.jn_notes.proofs.Standing.{row_stands}
 use Rattle.jn_notes.proofs.explain.notes_behind.Goals as goal
 
-pub next_notes_from-requires-clause-chain : goal.next_notes_from-requires-clause-chain
-next_notes_from-requires-clause-chain c =
-    let P = c.args.program.now in
-    let s = c.args.sig.now in
-    let ts = c.args.tables.now in
+pub notes_from-requires : goal.notes_from-requires
+notes_from-requires c =
+    let v = c.args.walk.now in
+    let u = c.program.result.now in
     let x = c.in-Some.item in
-    let st : Stands s ts x = row_stands s ts P c.args.row x (sym c.requires.item ∙ c.in-Some.is) in
-    let h : HasChain P s ts x = c.what_stands_has_a_chain.ensures P s ts c.requires.inferable c.requires.least c.requires.solved.long c.requires.solved.least x st in
-    subst (λ (us : List Table). HasChain P c.args.origins.now.sig us x) (sym c.requires.tables) (subst (λ (q : List Qualifier). HasChain P q ts x) (sym c.requires.sig) h)
-
-pub next_notes_from-requires-clause-sized : goal.next_notes_from-requires-clause-sized
-next_notes_from-requires-clause-sized c = c.least_tables_are_sized.ensures c.args.program.now c.args.sig.now c.args.tables.now c.requires.inferable c.requires.solved.least
+    let st : Stands v.sig v.tables x = row_stands v.sig v.tables v.program c.args.row x (sym c.requires.item ∙ c.in-Some.is) in
+    let here : Stands u.sig u.tables x = subst (λ (w : Subject). Stands w.sig w.tables x) (sym c.program.ensures) st in
+    subst (λ (w : Subject). HasChain w.program w.sig w.tables x) c.program.ensures
+    (c.what_stands_has_a_chain.ensures u.program u.sig u.tables c.facts.ensures.inferable c.facts.ensures.least c.facts.ensures.solved.long c.facts.ensures.solved.least x here)

@@ -2,4 +2,4 @@ use Rattle.jn_notes.proofs.Firsts.{owner_is_first}
 use Rattle.jn_notes.proofs.found.taker_at.Goals as goal
 
 pub returns-in-Some : goal.returns-in-Some
-returns-in-Some c = owner_is_first c.args.program.now c.args.sig.now c.args.sought c.args.tables.now c.args.sites.now _ _ c.requires.sites c.in-Some.ensures c.first_owner.ensures
+returns-in-Some c = owner_is_first c.args.placed.now.basis.program.now c.args.placed.now.basis.sig.now c.args.sought c.args.placed.now.basis.tables.now c.args.placed.now.sites.now _ _ c.args.placed.now.kept c.in-Some.ensures c.first_owner.ensures

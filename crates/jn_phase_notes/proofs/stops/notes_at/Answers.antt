@@ -1,8 +1,5 @@
-use Rattle.jn_phase_notes.proofs.Stopping.{one_read_fits, stops_nowhere, stops_there}
+use Rattle.jn_phase_notes.proofs.Stopping.{stops_nowhere, stops_there}
 use Rattle.jn_phase_notes.proofs.stops.notes_at.Goals as goal
-
-pub notes_in-requires : goal.notes_in-requires
-notes_in-requires c = one_read_fits c.args.reads.now c.args.span.file.0 c.index-reads-file.result c.requires c.if-file-reads.true c.index-reads-file.is
 
 pub returns-then-file-reads : goal.returns-then-file-reads
 returns-then-file-reads c = stops_there c.args.reads.now c.args.span c.index-reads-file.result c.notes_in.result c.if-file-reads.true c.index-reads-file.is c.notes_in.ensures

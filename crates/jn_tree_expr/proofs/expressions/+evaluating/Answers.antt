@@ -1,4 +1,5 @@
 use Rattle.std.proofs.Common.{◌≡◌, ℕ, true, false, List, Option, ◌++◌, ◌+◌, drop, refl, sym, ap, ◌∙◌, subst, append-nil}
+use Rattle.jn_tree_expr.proofs.Depth.{arguments_fall}
 use Rattle.jn_base.specs.declared.place.Span.{Span}
 use Rattle.jn_points.specs.declared.program.Program.{Program}
 use Rattle.jn_trees.specs.declared.expression.Expr.{Expr}
@@ -184,3 +185,12 @@ assign_by-returns g t c = λ m h.
     let first : type_in c.args.c.now (placed_view c.in-Assign.target.value) ≡ c.type_of.result = sym (c.type_of.ensures ∙ ap (λ (x : Expr). type_in c.args.c.now (placed_view x)) c.deref-in-Assign-3.ensures) in
     let second : type_in c.args.c.now (placed_view c.in-Assign.right.value) ≡ c.type_of-in-Assign.result = sym (c.type_of-in-Assign.ensures ∙ ap (λ (x : Expr). type_in c.args.c.now (placed_view x)) c.deref-in-Assign-4.ensures) in
     rw c.in-Assign.is (rw (assigns_so c.args.c.now.program.now c.args.names.now usual_limits.longest c.in-Assign.span c.in-Assign.operator (type_in c.args.c.now (placed_view c.in-Assign.target.value)) (type_in c.args.c.now (placed_view c.in-Assign.right.value)) (span_of (placed_view c.in-Assign.target.value)) ((meant_in c.args.c.now c.args.names.now m (placed_view c.in-Assign.target.value)).place) ((meant_in c.args.c.now c.args.names.now m (placed_view c.in-Assign.right.value)).value) (world_of c.args.w.now) (rw c.in-Assign.is at c.requires.assigns)) (bound (λ x. x) _ _ (place_of c.in_ok-to-in-Assign.to) (world_of c.place.new.w) c.combine.result (world_of c.combine.new.w) (subst (λ (x : Expr). ((meant_in c.args.c.now c.args.names.now m (placed_view x)).place) (world_of c.args.w.now) ≡ Has (place_of c.in_ok-to-in-Assign.to) (world_of c.place.new.w)) c.deref.ensures (c.in_ok-to-in-Assign.ensures m h)) (bound (λ x. x) _ _ c.in_ok-old-in-Assign.old (world_of c.place.new.w) c.combine.result (world_of c.combine.new.w) (subst (λ (s : Span). read_place c.args.c.now.program.now (place_of c.in_ok-to-in-Assign.to) s (world_of c.place.new.w) ≡ Has c.in_ok-old-in-Assign.old (world_of c.place.new.w)) at (subst (λ (p : Program). read_place p (place_of c.in_ok-to-in-Assign.to) c.span_of.result (world_of c.place.new.w) ≡ Has c.in_ok-old-in-Assign.old (world_of c.place.new.w)) c.program.ensures (c.in_ok-old-in-Assign.ensures))) (bound (λ x. x) _ _ c.in_ok-given-in-Assign.given (world_of c.value.new.w) c.combine.result (world_of c.combine.new.w) (subst (λ (x : Expr). (meant_in c.args.c.now c.args.names.now m (placed_view x)).value (world_of c.place.new.w) ≡ Has c.in_ok-given-in-Assign.given (world_of c.value.new.w)) c.deref-in-Assign-2.ensures (c.in_ok-given-in-Assign.ensures m h)) (rw (made, first, second) c.combine.ensures)))))
+
+pub dotted_call-evaluated-requires : goal.dotted_call-evaluated-requires
+dotted_call-evaluated-requires g t c κs within = (arguments_fall c.args.tree.now c.in-Call.target c.in-Call.name c.in-Call.arguments c.in-Call.span c.deref-in-Println.result.now t c.in-Call.is c.deref-in-Println.ensures.value c.decreases, within)
+
+pub dotted_call-evaluated-requires-in-Class : goal.dotted_call-evaluated-requires-in-Class
+dotted_call-evaluated-requires-in-Class g t c κs within = (arguments_fall c.args.tree.now c.in-Call.target c.in-Call.name c.in-Call.arguments c.in-Call.span c.deref-in-Class.result.now t c.in-Call.is c.deref-in-Class.ensures.value c.decreases, within)
+
+pub dotted_call-evaluated-requires-in-Call : goal.dotted_call-evaluated-requires-in-Call
+dotted_call-evaluated-requires-in-Call g t c κs within = (arguments_fall c.args.tree.now c.in-Call.target c.in-Call.name c.in-Call.arguments c.in-Call.span c.deref-in-Call-4.result.now t c.in-Call.is c.deref-in-Call-4.ensures.value c.decreases, within)

@@ -10,12 +10,14 @@ use Rattle.jn_tree_run.specs.Beginning.{within_frames}
 use Rattle.jn_tree_run.specs.Ends.{IsTold}
 use Rattle.jn_tree_run.proofs.run.tree_run.Goals as goal
 
-pub play-requires-clause-meant : goal.play-requires-clause-meant
-play-requires-clause-meant g c =
+pub play-requires : goal.play-requires
+play-requires g c =
     let same : sources_of c.deref.result.now ≡ sources (map placed_file c.args.trees.now) = ap sources_of c.deref.ensures.value ∙ c.in-Ok.ensures in
-    subst (λ (ss : List Source). (tree c.indexed-program.result.now ss c.args.names.now (within_frames c.args.frames) c.args.main.0 c.args.words.now c.args.fuel).end ≡ Stuck → ⊥) (sym same)
-    (subst (λ (P : Program). (tree P (sources (map placed_file c.args.trees.now)) c.args.names.now (within_frames c.args.frames) c.args.main.0 c.args.words.now c.args.fuel).end ≡ Stuck → ⊥) (sym c.indexed-program.ensures.is)
-    (never_stuck c.accepted_files_are_safe_by_trees.ensures.stuck (map placed_file c.args.trees.now) c.args.base.now c.requires.program c.indexed-program.ensures.regular c.indexed-program.ensures.typed c.args.main.0 c.requires.main c.args.names.now (within_frames c.args.frames) c.args.words.now c.args.fuel))
+    record {
+      meant = subst (λ (ss : List Source). (tree c.indexed-program.result.now ss c.args.names.now (within_frames c.args.frames) c.args.main.0 c.args.words.now c.args.fuel).end ≡ Stuck → ⊥) (sym same)
+          (subst (λ (P : Program). (tree P (sources (map placed_file c.args.trees.now)) c.args.names.now (within_frames c.args.frames) c.args.main.0 c.args.words.now c.args.fuel).end ≡ Stuck → ⊥) (sym c.indexed-program.ensures.is)
+          (never_stuck c.accepted_files_are_safe_by_trees.ensures.stuck (map placed_file c.args.trees.now) c.args.base.now c.requires.program c.indexed-program.ensures.regular c.indexed-program.ensures.typed c.args.main.0 c.requires.main c.args.names.now (within_frames c.args.frames) c.args.words.now c.args.fuel));
+    }
 
 pub returns-clause-answer : goal.returns-clause-answer
 returns-clause-answer g c =

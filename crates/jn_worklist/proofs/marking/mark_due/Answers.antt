@@ -8,5 +8,5 @@ pub returns-clause-idle : goal.returns-clause-idle
 returns-clause-idle g c =
     let d = g.C.Constraints.describe in
     let past : length c.args.new.now ≤ c.loop-at.at = let lo = c.loop-at-test.false in let hi = c.loop-at.auto.at-end in let f = c.requires.flags in omega arith in
-    let none : IsNoneDue c.loop-at.due = all_marked c.args.plan.now c.args.output.now c.args.new.now c.loop-at.due c.loop-at.at past c.loop-at.invariant.from in
-    marks_rest d (d c.args.table.now.counted.system) c.args.body.0 c.args.pass.now.seat.me.0 c.loop-at.pass.seat.me.0 c.loop-at.due c.loop-at.invariant.marking none
+    let none : IsNoneDue c.loop-at.due = all_marked c.args.task.now.plan.now c.args.output.now c.args.new.now c.loop-at.due c.loop-at.at past c.loop-at.invariant.from in
+    marks_rest d (d c.args.task.now.table.now.counted.system) c.args.task.now.body.0 c.args.pass.now.seat.me.0 c.loop-at.pass.seat.me.0 c.loop-at.due c.loop-at.invariant.marking.marking none

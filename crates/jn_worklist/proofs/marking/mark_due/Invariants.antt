@@ -1,13 +1,11 @@
-use Rattle.std.proofs.Common.{◌≡◌, ℕ, length}
-use Rattle.jn_sigtable.specs.Words.{view_of, system_of, IsPassOf}
+use Rattle.std.proofs.Common.{ℕ}
+use Rattle.jn_sigtable.specs.Words.{view_of}
 use Rattle.jn_worklist.specs.Plans.{IsDue, IsDueBy}
-use Rattle.jn_worklist.specs.Runs.{IsMarking}
+use Rattle.jn_worklist.specs.Runs.{IsMarkingOn}
 use Rattle.jn_worklist.proofs.marking.mark_due.Given as goal
 
 abbrev pub invariant-loop-at : goal.invariant-loop-at
 invariant-loop-at g l = record {
-  own : IsPassOf g.C.Constraints.describe l.table l.pass;
-  count : length l.due ≡ length l.fn.due;
-  marking : IsMarking (g.C.Constraints.describe (system_of l.table)) l.body.0 (view_of l.fn.pass) (view_of l.pass) l.due;
-  from : (x : ℕ) → IsDue l.due x → IsDueBy l.plan l.output l.new l.at x;
+  marking : IsMarkingOn g.C.Constraints.describe l.task.table.now l.task.body.0 (view_of l.fn.pass) l.pass l.due;
+  from : (x : ℕ) → IsDue l.due x → IsDueBy l.task.plan.now l.output l.new l.at x;
 }

@@ -15,8 +15,6 @@ loop-at-preserved g c =
     let m = c.mark_one.ensures.marking in
     let i = c.loop-at.invariant.marking in
     record {
-      own = c.mark_one.ensures.own;
-      count = c.mark_one.ensures.count ∙ c.loop-at.invariant.count;
-      marking = record { same_share = m.same_share ∙ i.same_share; same_taken = m.same_taken ∙ i.same_taken; body = m.body; read = m.read; raised = m.raised; owes = m.owes; own = m.own };
+      marking = record { own = m.own; count = m.count; marking = record { same_share = m.marking.same_share ∙ i.marking.same_share; same_taken = m.marking.same_taken ∙ i.marking.same_taken; body = m.marking.body; read = m.marking.read; raised = m.marking.raised; owes = m.marking.owes; own = m.marking.own } };
       left = readers_less c.args.readers.now c.loop-at.at c.at.result c.args.due.now c.loop-at.due c.mark_one.new.due inside (sym (get_or_from_slice_get c.args.readers.now c.loop-at.at c.at.result c.at.result c.at.ensures)) c.loop-at.invariant.left c.mark_one.ensures.left;
     }

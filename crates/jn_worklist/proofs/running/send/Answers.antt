@@ -10,5 +10,5 @@ pub mark_due-requires-clause-named : goal.mark_due-requires-clause-named
 mark_due-requires-clause-named g c i less =
     let os = c.args.output.now in
     let o : WordNo × ℕ = get_or os i (record { 0 = 0 }, 0) in
-    (g.met.C.Constraints.laws (system_of c.args.table.now)).named c.args.body.0 c.args.values.now c.requires.inside c.requires.count i o
+    (g.met.C.Constraints.laws (system_of c.args.task.now.table.now)).named c.args.task.now.body.0 c.args.values.now c.args.task.now.inside c.requires.count i o
     (subst (λ l. get_elem? l i ≡ some o) c.requires.output (entry_at os i (record { 0 = 0 }, 0) less))

@@ -2,7 +2,7 @@ use Rattle.std.proofs.Common.{map, ap, sym, ◌∙◌, subst}
 use Rattle.std.specs.Prelude.{Some, string_bytes}
 use Rattle.jn_front.specs.Files.{ReadFrom}
 use Rattle.jn_command.specs.Answer.{reading}
-use Rattle.jn_phases.proofs.Fitting.{few_reads, reads_fit}
+use Rattle.jn_phases.proofs.Fitting.{few_reads}
 use Rattle.nullcheck_annotate_top.specs.Answer.{Defines, effects}
 use Rattle.nullcheck_annotate_top.proofs.Ending.{answers, fault_rose, never_read, output_done}
 use Rattle.nullcheck_annotate_top.proofs.Naming.{few_words, output_of_read}
@@ -17,11 +17,6 @@ output_of_reads-requires-clause-few g c κs lives =
     let named = ap (map string_bytes) c.deref.ensures.value ∙ c.in-Ok.ensures ∙ c.as_slice.ensures in
     let from = subst (λ rs. ReadFrom held (map string_bytes words) before now rs) (sym c.deref-2.ensures.value) c.in-Ok-read_all.ensures.ok in
     few_reads words c.deref-2.result.now from.files (few_words words c.args.wanted.now.files named c.requires.few) from.named from.are
-
-pub output_of_reads-requires-clause-fit : goal.output_of_reads-requires-clause-fit
-output_of_reads-requires-clause-fit g c κs lives =
-    let from = subst (λ rs. ReadFrom (g.F.Files.held c.args.files.now) (map string_bytes c.deref.result.now) (g.F.Files.gave c.args.files.now) (g.F.Files.gave c.read_all.new.files) rs) (sym c.deref-2.ensures.value) c.in-Ok-read_all.ensures.ok in
-    reads_fit c.deref-2.result.now from.files from.are
 
 pub returns-in-Ok-output_of_reads-clause-answer : goal.returns-in-Ok-output_of_reads-clause-answer
 returns-in-Ok-output_of_reads-clause-answer g c =

@@ -1,15 +1,15 @@
 use Rattle.std.proofs.Common.{List, ℕ, ◌≤◌, length, ap, sym, ◌∙◌, subst}
 use Rattle.std.proofs.lemmas.Result.{IfOk-weaker}
 use Rattle.jn_base.specs.Place.{place_in}
+use Rattle.jn_front.proofs.Kept.{read_fits}
 use Rattle.nullcheck_annotate_top.specs.Output.{line_in, placed_line}
 use Rattle.nullcheck_annotate_top.proofs.Placing.{file_at, no_file_at}
-use Rattle.jn_front.proofs.Relexing.{fits_at}
 use Rattle.nullcheck_annotate_top.proofs.faults.place_line.Goals as goal
 
 pub place_within-place-requires : goal.place_within-place-requires
 place_within-place-requires c =
     let read = c.index-reads-file.result in
-    subst (λ (xs : List ℕ). length xs ≤ 1048576) (sym c.as_slice.ensures) (fits_at c.args.reads.now c.args.span.file.0 read read c.if-file-reads.true c.index-reads-file.is c.requires.fit)
+    subst (λ (xs : List ℕ). length xs ≤ 1048576) (sym c.as_slice.ensures) (read_fits read)
 
 pub returns-then-file-reads : goal.returns-then-file-reads
 returns-then-file-reads c =

@@ -1,6 +1,7 @@
 use Rattle.std.proofs.Common.{map, subst}
 use Rattle.jn_places.specs.PlacedView.{placed_file}
 use Rattle.nullcheck_cert_check.proofs.Certified.{IsTypedAll, IsWhole, found_all, found_stands, found_whole, program_read}
+use Rattle.jn_front.proofs.Kept.{read_from}
 use Rattle.nullcheck_cert_check.proofs.certifying.verdict_of.Goals as goal
 
 pub certify-requires-clause-program : goal.certify-requires-clause-program
@@ -10,7 +11,7 @@ certify-requires-clause-program c =
     let names = c.args.names.now in
     let whole = subst (IsWhole reads) c.in-Some.is c.requires.whole in
     let typed = subst (IsTypedAll c.args.infer reads names trees c.args.rows) c.in-Some.is c.requires.typed in
-    program_read c.args.infer reads names trees c.args.rows c.in-Some.base whole c.requires.read typed
+    program_read c.args.infer reads names trees c.args.rows c.in-Some.base whole (read_from c.args.reads.now) typed
 
 pub returns-in-None-clause-found : goal.returns-in-None-clause-found
 returns-in-None-clause-found c files bytes are is =

@@ -1,12 +1,12 @@
-use Rattle.std.proofs.Common.{◌≡◌, ◌∙◌, IfOk, ap, sym, subst, option_map}
+use Rattle.std.proofs.Common.{◌≡◌, ◌∙◌, IfOk, ap, sym, subst, option_map, get_or}
 use Rattle.std.proofs.lemmas.Option.{slice_get-get_or, slice_get-map, slice_get_past}
 use Rattle.jn_front.specs.declared.source.SourceRead.{SourceRead}
-use Rattle.jn_front.proofs.Loops.{fits_at}
+use Rattle.jn_front.proofs.Kept.{read_fits}
 use Rattle.nullcheck_cert_check.specs.Lines.{place_in_file}
 use Rattle.nullcheck_cert_check.proofs.lines.place_of_span.Goals as goal
 
 pub place_in_file-requires : goal.place_in_file-requires
-place_in_file-requires c = record { fits = fits_at c.args.reads.now c.args.span.file.0 c.index-reads-file.result c.requires.fit c.if-file-reads.true }
+place_in_file-requires c = record { fits = read_fits (get_or c.args.reads.now c.args.span.file.0 c.index-reads-file.result) }
 
 pub returns-then-file-reads : goal.returns-then-file-reads
 returns-then-file-reads c =

@@ -1,13 +1,13 @@
-use Rattle.std.proofs.Common.{◌≡◌, ◌∙◌, IfOk, ap, sym, subst, option_map}
+use Rattle.std.proofs.Common.{◌≡◌, ◌∙◌, IfOk, ap, sym, subst, option_map, get_or}
 use Rattle.std.proofs.lemmas.Option.{slice_get-get_or, slice_get-map, slice_get_past}
 use Rattle.jn_front.specs.declared.source.SourceRead.{SourceRead}
-use Rattle.jn_front.proofs.Loops.{fits_at}
+use Rattle.jn_front.proofs.Kept.{read_fits}
 use Rattle.jn_reporters.specs.Reports.{plain_line}
 use Rattle.jn_command.specs.Shown.{row_of_file}
 use Rattle.nullcheck_cert_check.proofs.lines.row_line.Goals as goal
 
 pub row_in_file-requires : goal.row_in_file-requires
-row_in_file-requires c = record { fits = fits_at c.args.reads.now c.args.row.span.file.0 c.index-reads-file.result c.requires.fit c.if-file-reads.true }
+row_in_file-requires c = record { fits = read_fits (get_or c.args.reads.now c.args.row.span.file.0 c.index-reads-file.result) }
 
 pub returns-then-file-reads : goal.returns-then-file-reads
 returns-then-file-reads c =

@@ -3,7 +3,7 @@ use Rattle.std.specs.Prelude.{string_bytes}
 use Rattle.jn_command.specs.Answer.{reading}
 use Rattle.jn_cli.specs.Cert.{command}
 use Rattle.nullcheck_cert_check.proofs.Answering.{are_inputs, many_answers, many_unread, many_written, no_fault, of_inputs}
-use Rattle.jn_phases.proofs.Fitting.{few_reads, many_names, reads_fit}
+use Rattle.jn_phases.proofs.Fitting.{few_reads, many_names}
 use Rattle.nullcheck_cert_check.proofs.top.answer_command.Goals as goal
 
 pub returns-then-names-gt-MOST_FILES-clause-answer : goal.returns-then-names-gt-MOST_FILES-clause-answer
@@ -26,9 +26,6 @@ pub answer_inputs-requires-clause-few : goal.answer_inputs-requires-clause-few
 answer_inputs-requires-clause-few g c κs lives =
     let from = c.in-Ok.ensures.ok in
     few_reads c.args.names.now c.in-Ok.inputs.reads.items from.files c.if-names-gt-MOST_FILES.false from.named from.are
-
-pub answer_inputs-requires-clause-fit : goal.answer_inputs-requires-clause-fit
-answer_inputs-requires-clause-fit g c κs lives = let from = c.in-Ok.ensures.ok in reads_fit c.in-Ok.inputs.reads.items from.files from.are
 
 pub returns-clause-answer : goal.returns-clause-answer
 returns-clause-answer g c =

@@ -1,6 +1,7 @@
 use Rattle.std.proofs.Common.{map, subst}
 use Rattle.jn_places.specs.PlacedView.{placed_file}
 use Rattle.nullcheck_cert_write.proofs.Finding.{IsTypedAll, IsWhole, found_all, found_stands, program_read}
+use Rattle.jn_front.proofs.Kept.{read_from}
 use Rattle.nullcheck_cert_write.proofs.making.verdict_of.Goals as goal
 
 pub make_based-requires-clause-program : goal.make_based-requires-clause-program
@@ -10,7 +11,7 @@ make_based-requires-clause-program g c κs lives =
     let names = c.args.names.now in
     let whole = subst (IsWhole reads) c.in-Some.is c.requires.whole in
     let typed = subst (IsTypedAll c.args.infer reads names trees c.args.rows) c.in-Some.is c.requires.typed in
-    program_read c.args.infer reads names trees c.args.rows c.in-Some.base c.requires.read typed whole
+    program_read c.args.infer reads names trees c.args.rows c.in-Some.base (read_from c.args.reads.now) typed whole
 
 pub returns-in-None-clause-found : goal.returns-in-None-clause-found
 returns-in-None-clause-found g c files are =
@@ -23,7 +24,7 @@ returns-in-Some-clause-found g c =
     let names = c.args.names.now in
     let whole = subst (IsWhole reads) c.in-Some.is c.requires.whole in
     let typed = subst (IsTypedAll c.args.infer reads names trees c.args.rows) c.in-Some.is c.requires.typed in
-    found_all c.args.infer reads names trees c.args.rows c.in-Some.base c.requires.read typed whole c.make_based.result c.make_based.ensures
+    found_all c.args.infer reads names trees c.args.rows c.in-Some.base (read_from c.args.reads.now) typed whole c.make_based.result c.make_based.ensures
 
 pub returns-in-Some-clause-stand : goal.returns-in-Some-clause-stand
 returns-in-Some-clause-stand g c =
@@ -32,4 +33,4 @@ returns-in-Some-clause-stand g c =
     let names = c.args.names.now in
     let whole = subst (IsWhole reads) c.in-Some.is c.requires.whole in
     let typed = subst (IsTypedAll c.args.infer reads names trees c.args.rows) c.in-Some.is c.requires.typed in
-    found_stands c.args.infer reads names trees c.args.rows c.in-Some.base c.requires.read typed whole c.make_based.result
+    found_stands c.args.infer reads names trees c.args.rows c.in-Some.base (read_from c.args.reads.now) typed whole c.make_based.result

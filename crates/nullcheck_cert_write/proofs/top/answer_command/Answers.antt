@@ -2,7 +2,7 @@ use Rattle.std.proofs.Common.{map, refl, sym, subst, inl}
 use Rattle.std.specs.Prelude.{string_bytes}
 use Rattle.jn_front.specs.Files.{ReadFrom}
 use Rattle.jn_command.specs.Answer.{reading}
-use Rattle.jn_phases.proofs.Fitting.{few_reads, many_names, reads_fit}
+use Rattle.jn_phases.proofs.Fitting.{few_reads, many_names}
 use Rattle.nullcheck_cert_write.specs.Answer.{outcome}
 use Rattle.nullcheck_cert_write.proofs.Telling.{many_answers, many_rose, many_unread}
 use Rattle.nullcheck_cert_write.proofs.top.answer_command.Goals as goal
@@ -30,8 +30,3 @@ pub answer_reads-requires-clause-few : goal.answer_reads-requires-clause-few
 answer_reads-requires-clause-few g c κs lives =
     let from = subst (λ rs. ReadFrom (g.F.Files.held c.args.files.now) (map string_bytes c.args.names.now) (g.F.Files.gave c.args.files.now) (g.F.Files.gave c.read_all.new.files) rs) (sym c.deref.ensures.value) c.in-Ok.ensures.ok in
     few_reads c.args.names.now c.deref.result.now from.files c.if-names-gt-MOST_FILES.false from.named from.are
-
-pub answer_reads-requires-clause-fit : goal.answer_reads-requires-clause-fit
-answer_reads-requires-clause-fit g c κs lives =
-    let from = subst (λ rs. ReadFrom (g.F.Files.held c.args.files.now) (map string_bytes c.args.names.now) (g.F.Files.gave c.args.files.now) (g.F.Files.gave c.read_all.new.files) rs) (sym c.deref.ensures.value) c.in-Ok.ensures.ok in
-    reads_fit c.deref.result.now from.files from.are

@@ -5,7 +5,7 @@ use Rattle.jn_asked.specs.Asked.{asked_with}
 use Rattle.jn_command.specs.Answer.{reading}
 use Rattle.nullcheck_top.proofs.Answering.{checked_many, checked_read, many_answers, many_written}
 use Rattle.nullcheck_top.proofs.Written.{files_named, never_read, no_fault, of_files, starts_none}
-use Rattle.jn_phases.proofs.Fitting.{few_reads, many_names, reads_fit}
+use Rattle.jn_phases.proofs.Fitting.{few_reads, many_names}
 use Rattle.jn_report.specs.Report.{IsReport}
 use Rattle.jn_safe_files.specs.Safe.{IsSafe}
 use Rattle.nullcheck_top.specs.Report.{AreNotes, RunsTo, Prints}
@@ -53,11 +53,6 @@ answer_reads-requires-clause-few g c κs lives =
     let now = g.F.Files.gave c.read_all.new.files in
     let from = subst (λ rs. ReadFrom held (map string_bytes c.args.names.now) before now rs) (sym c.deref.ensures.value) c.in-Ok.ensures.ok in
     few_reads c.args.names.now c.deref.result.now from.files c.if-names-gt-MOST_FILES.false from.named from.are
-
-pub answer_reads-requires-clause-fit : goal.answer_reads-requires-clause-fit
-answer_reads-requires-clause-fit g c κs lives =
-    let from = subst (λ rs. ReadFrom (g.F.Files.held c.args.files.now) (map string_bytes c.args.names.now) (g.F.Files.gave c.args.files.now) (g.F.Files.gave c.read_all.new.files) rs) (sym c.deref.ensures.value) c.in-Ok.ensures.ok in
-    reads_fit c.deref.result.now from.files from.are
 
 pub returns-clause-answer : goal.returns-clause-answer
 returns-clause-answer g c =

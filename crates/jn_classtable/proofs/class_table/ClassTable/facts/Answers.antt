@@ -14,14 +14,14 @@ pub returns-clause-regular : goal.returns-clause-regular
 returns-clause-regular c =
     let i = c.self.invariant in
     subst (λ (t : Tabled). (bodies : List Body) → length bodies ≡ bodies_of_all (all_heads t.heads) → RegularTable (program_with t.heads bodies) (called t.heads)) c.self.view_is
-    (λ bodies many. table_regular c.self.inside.declared bodies i.fit i.rows many i.small.fields i.small.methods)
+    (λ bodies many. table_regular c.self.inside.declared bodies i.fit i.rows many c.facts.ensures.fields c.facts.ensures.methods)
 
 pub returns-clause-classes : goal.returns-clause-classes
 returns-clause-classes c =
-    let few = c.self.invariant.small.heads in
+    let few = c.facts.ensures.heads in
     let size = size_is c.self.inside.declared in
     subst (λ (t : Tabled). length (table t.heads).classes < 2 ^ 32) c.self.view_is (omega (few, size, arith))
 
 pub returns-clause-parameters : goal.returns-clause-parameters
 returns-clause-parameters c =
-    subst (λ (t : Tabled). ParamsFit (table t.heads)) c.self.view_is c.self.invariant.small.params
+    subst (λ (t : Tabled). ParamsFit (table t.heads)) c.self.view_is c.facts.ensures.params
