@@ -1,5 +1,5 @@
 //! Two files that workers lex and parse together: the names of both and each tree, or the rows, and whether two workers met.
-ghost use Rattle.std.specs.Prelude.{◌≡◌, IfOk};
+ghost use Rattle.std.specs.Prelude.{◌≡◌, ◌≤◌, length, IfOk};
 
 use crate::page::Shown;
 use crate::shape::shape_of;
@@ -17,6 +17,7 @@ const LIMIT: usize = 1_048_576;
 
 /// A file that was read whole, for whoever has no use for its name.
 fn whole(alloc: Global, bytes: Vec<u8>) -> Result<SourceRead, OutOfMemory>
+    requires { length bytes.items ≤ 1048576 }
     ensures { IfOk result (λ read. read.file.bytes ≡ bytes.items) }
 {
     let name = Text::of_str(alloc, "")?;
