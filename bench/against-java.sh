@@ -64,6 +64,6 @@ fi
 if [ -n "$annotator" ]; then
   mkdir "$scratch/annotated"
   java -Dfile.encoding=UTF-8 -cp "$scratch/driver" Annotated "$scratch/annotated" "$(readlink -f "$annotator")" \
-    "$cases/data" "$root/crates/nullcheck_tools_cases/data/annotated" "$root/examples" || status=1
+    "$cases/data" "$cases/data/annotated" "$root/examples" || status=1
 fi
 exit "$status"

@@ -1,7 +1,6 @@
 //! From a report's rows to what is told of files.
 ghost use Rattle.std.specs.Prelude.{◌≡◌, ◌++◌, ◌∷◌, [], IfOk, OnOk};
 ghost use Rattle.jn_lsp.specs.Telling as spec;
-ghost use Rattle.jn_recheck.specs.Files.{AllFit};
 
 use jn_base::{OutOfMemory, Row, Seq, Text};
 use jn_front::SourceFile;
@@ -9,6 +8,7 @@ use jn_lsp_solved::Marked;
 use jn_lsp_solved::related::{diagnostic_of, home};
 use jn_lsp_text::{Diagnostic, Encoding};
 use jn_note_words::{Note, Notes};
+use jn_recheck::FileSet;
 use std::alloc::{AllocError, Global};
 
 /// What is told of a file: its diagnostics in the order of the report.
@@ -117,11 +117,10 @@ fn told_of_marked(
 pub(crate) fn told_of_all(
     alloc: Global,
     encoding: Encoding,
-    files: &[SourceFile],
+    files: &FileSet,
     rows: &[Row],
     notes: &[Notes],
 ) -> Result<Vec<Told>, OutOfMemory>
-    requires fit { AllFit files.now }
     ensures { IfOk result (λ told. told.items
         ≡ spec.told_from (spec.diagnostics_at encoding files.now rows.now notes.now) 0 files.now) }
 {

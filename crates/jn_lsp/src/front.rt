@@ -98,10 +98,10 @@ fn before_token(text: &[u8]) -> usize
 }
 
 /// The place of a text's first token, or of its end.
-pub(crate) fn front(encoding: Encoding, text: &[u8]) -> Range
-    requires small { length text.now < 2 ^ 30 }
+pub(crate) fn front(encoding: Encoding, text: &SmallText) -> Range
     ensures { result ≡ spec.front encoding text.now }
 {
+    let text = text.bytes();
     let at = before_token(text) as u32;
     range_of(encoding, text, at, at)
 }

@@ -37,7 +37,7 @@ fn hover_of<R: Threads + Sync, G: Gate + Sync>(
         Workers::of(WORKERS),
         workspace.infer,
         workspace.encoding,
-        files.as_slice(),
+        &files,
         name,
         position,
     )?;

@@ -53,7 +53,7 @@ fn actions_of<R: Threads + Sync, G: Gate + Sync>(
         Workers::of(WORKERS),
         workspace.infer,
         workspace.encoding,
-        files.as_slice(),
+        &files,
         name,
         range,
     )?;

@@ -1,7 +1,6 @@
 //! The report of the files as they stand.
 ghost use Rattle.std.specs.Prelude.{◌≡◌, IfOk, ◌≤◌};
 ghost use Rattle.jn_lsp.specs.Reported.{AreNoted, AreTold, IsReported, IsTold};
-ghost use Rattle.jn_recheck.specs.Files.{AllFit, HaveOwnNames};
 
 use crate::diagnostics::{Told, told_of_all};
 use crate::refused::notes_of_refused;
@@ -11,7 +10,7 @@ use jn_diag::Verdict;
 use jn_front::SourceFile;
 use jn_lsp_text::Encoding;
 use jn_note_words::Notes;
-use jn_recheck::{Checked, Session};
+use jn_recheck::{Checked, FileSet, Session};
 use jn_sharing::{Gate, Workers};
 use std::alloc::Global;
 use std::thread::Threads;
@@ -68,11 +67,10 @@ fn tale_of(
     infer: Infer,
     encoding: Encoding,
     last: &LastReport,
-    files: &[SourceFile],
+    files: &FileSet,
     checked: &Checked,
     notes: &[Notes],
 ) -> Result<Tale, OutOfMemory>
-    requires fit { AllFit files.now }
     requires noted { AreNoted infer files.now checked.now.places.items checked.now.verdict notes.now }
     ensures { IfOk result (λ tale. AreTold infer encoding last.now tale.came files.now tale.told.items) }
 {
@@ -103,16 +101,14 @@ fn report<R: Threads + Sync, G: Gate + Sync>(
     encoding: Encoding,
     session: &mut Session,
     last: &LastReport,
-    files: &[SourceFile],
+    files: &FileSet,
 ) -> Result<Tale, OutOfMemory>
     requires chosen { session.old.infer ≡ infer }
-    requires fit { AllFit files.now }
-    requires distinct { HaveOwnNames files.now }
     ensures { IfOk result (λ tale. AreTold infer encoding last.now tale.came files.now tale.told.items) }
 {
     session.replace(files)?;
     let checked = session.report(rt, Workers::of(WORKERS), gate, gate)?;
-    let notes = notes_of(rt, gate, alloc, infer, session, files, &checked)?;
+    let notes = notes_of(rt, gate, alloc, infer, session, files.as_slice(), &checked)?;
     let tale = tale_of(
         alloc,
         infer,
@@ -134,13 +130,11 @@ pub(crate) fn tell<R: Threads + Sync, G: Gate + Sync>(
     encoding: Encoding,
     session: &mut Session,
     last: &LastReport,
-    files: &[SourceFile],
+    files: &FileSet,
 ) -> Result<Tale, OutOfMemory>
-    requires fit { AllFit files.now }
-    requires distinct { HaveOwnNames files.now }
     ensures { IfOk result (λ tale. IsTold infer encoding last.now tale.came files.now tale.told.items) }
 {
-    if files.len() == 0 {
+    if files.as_slice().is_empty() {
         return Ok(Tale {
             told: Vec::new(alloc),
             came: false,

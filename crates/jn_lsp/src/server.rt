@@ -14,9 +14,8 @@ use crate::standing::stand;
 use crate::unchecked::{LastReport, keep};
 use crate::unknown::hushed;
 use jn_base::{Infer, OutOfMemory, Seq, Text};
-use jn_front::SourceFile;
 use jn_lsp_text::Reply;
-use jn_recheck::Session;
+use jn_recheck::{FileSet, Session};
 use jn_sharing::Gate;
 use std::alloc::{AllocError, Global};
 use std::marker::Model;
@@ -25,7 +24,7 @@ use std::thread::Threads;
 /// What is told after an event, and what of it is published: the files' report, whether it came to the rules, and what is told of it where texts aren't known.
 #[derive(Drop)]
 struct News {
-    files: Vec<SourceFile>,
+    files: FileSet,
     came: bool,
     all: Vec<Told>,
     told: Vec<Told>,
@@ -45,7 +44,7 @@ fn retell<R: Threads + Sync, G: Gate + Sync>(
 ) -> Result<News, OutOfMemory>
     ensures told { IfOk result
         (λ news. AreToldOf workspace.now last.now news.came news.all.items news.told.items) }
-    ensures stood { IfOk result (λ news. news.files.items ≡ files_of workspace.now) }
+    ensures stood { IfOk result (λ news. news.files ≡ files_of workspace.now) }
     ensures announced { IfOk result (λ news. Announces opened.now workspace.now.versions before.now news.told.items news.publications) }
 {
     let files = stand(alloc, workspace)?;
@@ -57,7 +56,7 @@ fn retell<R: Threads + Sync, G: Gate + Sync>(
         workspace.encoding,
         session,
         last,
-        files.as_slice(),
+        &files,
     )?;
     let told = hushed(alloc, workspace.unknown.as_slice(), all.as_slice())?;
     let publications = announce(

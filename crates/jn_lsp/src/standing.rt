@@ -2,11 +2,11 @@
 ghost use Rattle.std.specs.Prelude.{◌≡◌, ◌≤◌, ◌<◌, ◌++◌, IfOk, OnOk, map, length, true};
 ghost use Rattle.jn_lsp.specs.Serving.{files_of};
 ghost use Rattle.jn_lsp.specs.Stand as spec;
-ghost use Rattle.jn_recheck.specs.Files.{AllFit, HaveOwnNames};
 
 use crate::documents::{Workspace, is_named, place_of};
 use jn_base::{OutOfMemory, Seq, Text};
 use jn_front::SourceFile;
+use jn_recheck::FileSet;
 use std::alloc::{AllocError, Global};
 
 /// The greatest number of bytes of a file.
@@ -99,15 +99,13 @@ fn stand_all(
 }
 
 /// The files as they stand.
-pub(crate) fn stand(alloc: Global, workspace: &Workspace) -> Result<Vec<SourceFile>, OutOfMemory>
-    ensures are { IfOk result (λ files. files.items ≡ files_of workspace.now) }
-    ensures fit { IfOk result (λ files. AllFit files.items) }
-    ensures distinct { IfOk result (λ files. HaveOwnNames files.items) }
+pub(crate) fn stand(alloc: Global, workspace: &Workspace) -> Result<FileSet, OutOfMemory>
+    ensures { IfOk result (λ files. files ≡ files_of workspace.now) }
 {
     let files = stand_all(
         alloc,
         workspace.disk.as_slice(),
         workspace.documents.as_slice(),
     )?;
-    Ok(files)
+    Ok(FileSet::of(files))
 }

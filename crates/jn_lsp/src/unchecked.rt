@@ -4,7 +4,7 @@ ghost use Rattle.jn_base.specs.Place as places;
 ghost use Rattle.jn_lsp.specs.Reported as spec;
 ghost use Rattle.jn_lsp.specs.Telling.{told_from};
 ghost use Rattle.jn_lsp_solved.specs.Related.{home_of};
-ghost use Rattle.jn_recheck.specs.Files.{AllFit, is_as_before};
+ghost use Rattle.jn_recheck.specs.Files.{is_as_before};
 
 use crate::diagnostics::{Told, diagnostics_at, push, told_of};
 use crate::documents::place_of;
@@ -15,8 +15,10 @@ use jn_base::{Code, OutOfMemory, Place, Row, Seq, Span, Text, place_of as place_
 use jn_front::SourceFile;
 use jn_lsp_solved::Marked;
 use jn_lsp_solved::related::{home, name_of, range_in};
-use jn_lsp_text::{Diagnostic, Encoding, Related, Said, copy_diagnostics};
+use jn_lsp_solved::texts::text_at;
+use jn_lsp_text::{Diagnostic, Encoding, Related, Said, SmallText, copy_diagnostics};
 use jn_note_words::Notes;
+use jn_recheck::FileSet;
 use std::alloc::{AllocError, Global};
 
 /// The last report that came to the rules: the files that stood then, and what it told of each of them. Before the first one there are none.
@@ -39,12 +41,12 @@ impl LastReport {
 }
 
 /// Keeps a report of these files, which told this, where it came to the rules.
-pub(crate) fn keep(last: &mut LastReport, came: bool, files: Vec<SourceFile>, told: Vec<Told>)
-    ensures { last.new ≡ spec.next_last came files.items told.items last.old }
+pub(crate) fn keep(last: &mut LastReport, came: bool, files: FileSet, told: Vec<Told>)
+    ensures { last.new ≡ spec.next_last came files told.items last.old }
 {
     if came {
         *last = LastReport {
-            files: Seq::of_vec(files),
+            files: Seq::of_vec(files.into_vec()),
             told: Seq::of_vec(told),
         };
     }
@@ -96,22 +98,17 @@ fn wrong(code: Code) -> &'static str
 }
 
 /// The text of the file where a span stands.
-fn text_of<'a>(files: &'a [SourceFile], span: &Span) -> &'a [u8]
-    requires fit { AllFit files.now }
-    ensures is { result.now ≡ (home_of files.now span.now).bytes }
-    ensures small { length result.now < 2 ^ 30 }
+fn text_of<'a>(files: &'a FileSet, span: &Span) -> SmallText<'a>
+    ensures { result ≡ (home_of files.now span.now).bytes }
 {
-    match files.get(home(files, span)) {
-        None => &[],
-        Some(file) => file.bytes.as_slice(),
-    }
+    text_at(files, home(files.as_slice(), span))
 }
 
 /// The place of a span's first byte, or of the text's end where it is beyond.
-fn place_in(text: &[u8], span: &Span) -> Place
-    requires small { length text.now < 2 ^ 30 }
+fn place_in(text: &SmallText, span: &Span) -> Place
     ensures { result ≡ places.place_in text.now span.now }
 {
+    let text = text.bytes();
     let within = Span {
         file: span.file,
         from: (span.from as usize).min(text.len()) as u32,
@@ -121,13 +118,12 @@ fn place_in(text: &[u8], span: &Span) -> Place
 }
 
 /// Why files aren't checked: the report has this row.
-fn why(alloc: Global, files: &[SourceFile], row: &Row) -> Result<Text, AllocError>
-    requires fit { AllFit files.now }
+fn why(alloc: Global, files: &FileSet, row: &Row) -> Result<Text, AllocError>
     ensures { IfOk result (λ words. words ≡ spec.why files.now row.now) }
 {
-    let place = place_in(text_of(files, &row.span), &row.span);
+    let place = place_in(&text_of(files, &row.span), &row.span);
     let mut words = String::from_str(alloc, "not checked since ")?;
-    words.push_str(name_of(files, &row.span))?;
+    words.push_str(name_of(files.as_slice(), &row.span))?;
     words.push_str(" ")?;
     words.push_str(wrong(row.code))?;
     words.push_str(": ")?;
@@ -164,9 +160,10 @@ fn unchecked(
     ensures { IfOk result (λ diagnostic. diagnostic
         ≡ spec.unchecked marked.now.encoding marked.now.files row.now file.now) }
 {
+    let text = SmallText::of(file.bytes.as_slice());
     Ok(Diagnostic {
-        range: front(marked.encoding(), file.bytes.as_slice()),
-        said: Said::Unchecked(why(alloc, marked.files(), row)?),
+        range: front(marked.encoding(), &text),
+        said: Said::Unchecked(why(alloc, marked.file_set(), row)?),
         related: there(alloc, marked, row)?,
     })
 }
@@ -224,7 +221,7 @@ fn unchecked_at(
     ensures { IfOk result (λ diagnostics. diagnostics
         ≡ spec.unchecked_at marked.now.encoding last.now marked.now.files rows.now notes.now at) }
 {
-    let files = marked.files();
+    let files = marked.file_set().as_slice();
     let own = diagnostics_at(alloc, marked, rows, notes, at)?;
     if own.len() == 0 {
         kept(alloc, marked, last, rows, &files[at])
@@ -259,11 +256,10 @@ pub(crate) fn unchecked_of_all(
     alloc: Global,
     encoding: Encoding,
     last: &LastReport,
-    files: &[SourceFile],
+    files: &FileSet,
     rows: &[Row],
     notes: &[Notes],
 ) -> Result<Vec<Told>, OutOfMemory>
-    requires fit { AllFit files.now }
     ensures { IfOk result (λ told. told.items
         ≡ told_from (spec.unchecked_at encoding last.now files.now rows.now notes.now) 0 files.now) }
 {

@@ -1,39 +1,23 @@
 //! The rows that are asked for, and the slots whose annotations are offered at these.
 ghost use Rattle.std.specs.Prelude.{◌≡◌, ◌++◌, ◌∷◌, [], filter, IfOk, map, OnOk, option_to_list, Some};
-ghost use Rattle.jn_contrib.specs.Entries.{AreOverriders};
-ghost use Rattle.jn_inference_law.specs.Solution.{IsLeastSignature};
 ghost use Rattle.jn_notes.specs.Asked.{item_of as item_of_row};
-ghost use Rattle.jn_notes.specs.Noted.{AreLeastTables};
-ghost use Rattle.jn_reasons_law.specs.Chains.{HasChain};
-ghost use Rattle.jn_recheck.specs.Files.{AllFit};
-ghost use Rattle.jn_tables_law.specs.Inferable.{IsInferable};
+ghost use Rattle.jn_reasons_law.specs.Items.{Stands};
 ghost use Rattle.jn_trees.specs.View.{file_view};
 ghost use Rattle.jn_lsp_actions.specs.Offered as spec;
 ghost use Rattle.jn_lsp_actions.specs.Written.{is_written};
 
 use crate::asking::is_asked;
-use crate::edits::Solved;
+use crate::edits::Lexed;
 use jn_base::lists::put;
-use jn_base::{Infer, OutOfMemory, Row, Seq};
-use jn_chain::first_chain;
-use jn_contrib::Overrider;
-use jn_env::FlowTable;
-use jn_front::SourceFile;
-use jn_lsp_solved::Marked;
-use jn_lsp_text::{Encoding, Range};
-use jn_notes::explain::item_of;
-use jn_origins::LeastOrigins;
-use jn_origins::law::what_stands_has_a_chain;
+use jn_base::{OutOfMemory, Row, Seq};
+use jn_lsp_solved::{Marked, Traced};
+use jn_lsp_text::Range;
 use jn_reasons_law::{Item, Step};
 use std::alloc::{AllocError, Global};
 
 /// What is asked for: rows of the file of a name that meet a range.
 #[derive(Clone, Copy)]
 pub struct Asked<'a> {
-    /// The members that are inferred.
-    pub infer: Infer,
-    /// The unit of positions.
-    pub encoding: Encoding,
     pub name: &'a str,
     pub range: Range,
 }
@@ -83,38 +67,37 @@ fn asked_rows_in(
 /// No memory was found.
 pub fn asked_rows(
     alloc: Global,
-    encoding: Encoding,
-    files: &[SourceFile],
+    traced: &Traced,
     asked: &Asked,
     rows: &[Row],
 ) -> Result<Vec<Row>, OutOfMemory>
-    requires fit { AllFit files.now }
     ensures { IfOk result (λ asked_rows. asked_rows.items
-        ≡ filter (spec.is_asked_row encoding files.now asked.now.name.now asked.now.range) rows.now) }
+        ≡ filter
+        (spec.is_asked_row traced.now.encoding traced.now.files asked.now.name.now asked.now.range)
+        rows.now) }
 {
-    let marked = Marked::new(alloc, encoding, files, rows.len() > 0)?;
+    let marked = traced.solved_files().marked(alloc, rows.len() > 0)?;
     let asked_rows = asked_rows_in(alloc, &marked, asked, rows)?;
     Ok(asked_rows)
 }
 
 /// The first slot of a chain whose annotation can be written.
-fn first_slot(steps: &[Step], alloc: Global, solved: &Solved) -> Result<Option<u32>, OutOfMemory>
-    requires fit { AllFit solved.now.files.now }
+fn first_slot(steps: &[Step], alloc: Global, lexed: &Lexed) -> Result<Option<u32>, OutOfMemory>
     ensures { IfOk result (λ slot. slot
-        ≡ spec.first_slot (is_written solved.now.encoding solved.now.files.now solved.now.tokens.now
-        (map file_view solved.now.trees.now) solved.now.program.now solved.now.sig.now) steps.now) }
+        ≡ spec.first_slot (is_written lexed.now.traced.now.encoding lexed.now.traced.now.files lexed.now.tokens.now
+        (map file_view lexed.now.trees.now) lexed.now.traced.now.program lexed.now.traced.now.sig) steps.now) }
 {
     match steps {
         [] => Ok(None),
         [step, more @ ..] => match step.item {
             Item::AtSlot(slot, _) => {
-                if solved.is_written(alloc, slot)? {
+                if lexed.is_written(alloc, slot)? {
                     Ok(Some(slot))
                 } else {
-                    first_slot(more, alloc, solved)
+                    first_slot(more, alloc, lexed)
                 }
             }
-            Item::AtRegister(_, _, _, _) => first_slot(more, alloc, solved),
+            Item::AtRegister(_, _, _, _) => first_slot(more, alloc, lexed),
         },
     }
 }
@@ -131,53 +114,31 @@ fn listed(alloc: Global, slot: Option<u32>) -> Result<Seq<u32>, AllocError>
 }
 
 /// The first slot of the first chain from an item.
-fn slots_from(
-    alloc: Global,
-    solved: &Solved,
-    origins: &LeastOrigins,
-    item: Item,
-) -> Result<Seq<u32>, OutOfMemory>
-    requires fit { AllFit solved.now.files.now }
-    requires chain { HasChain origins.now.program origins.now.sig origins.now.tables item }
+fn slots_from(alloc: Global, lexed: &Lexed, item: Item) -> Result<Seq<u32>, OutOfMemory>
+    requires stands { Stands lexed.now.traced.now.sig lexed.now.traced.now.tables item }
     ensures { IfOk result (λ slots.
-        spec.AreSlotsFrom origins.now.program origins.now.sig origins.now.tables
-        (is_written solved.now.encoding solved.now.files.now solved.now.tokens.now
-        (map file_view solved.now.trees.now) solved.now.program.now solved.now.sig.now)
+        spec.AreSlotsFrom lexed.now.traced.now.program lexed.now.traced.now.sig lexed.now.traced.now.tables
+        (is_written lexed.now.traced.now.encoding lexed.now.traced.now.files lexed.now.tokens.now
+        (map file_view lexed.now.trees.now) lexed.now.traced.now.program lexed.now.traced.now.sig)
         (Some item) slots) }
 {
-    let steps = first_chain(alloc, origins, item)?;
-    let slot = first_slot(&steps, alloc, solved)?;
+    let steps = lexed.traced.chain_from(alloc, item)?;
+    let slot = first_slot(&steps, alloc, lexed)?;
     let slots = listed(alloc, slot)?;
     Ok(slots)
 }
 
 /// The slot of a row, where it has one.
-fn slots_of_row(
-    alloc: Global,
-    solved: &Solved,
-    tables: &[FlowTable],
-    overriders: &[Overrider],
-    origins: &LeastOrigins,
-    row: Row,
-) -> Result<Seq<u32>, OutOfMemory>
-    requires fit { AllFit solved.now.files.now }
-    requires inferable { IsInferable solved.now.program.now }
-    requires least { IsLeastSignature solved.now.program.now solved.now.sig.now }
-    requires solved { AreLeastTables solved.now.program.now solved.now.sig.now tables.now }
-    requires overriders { AreOverriders solved.now.program.now overriders.now }
-    requires program { origins.now.program ≡ solved.now.program.now }
-    requires sig { origins.now.sig ≡ solved.now.sig.now }
-    requires tables { origins.now.tables ≡ tables.now }
+fn slots_of_row(alloc: Global, lexed: &Lexed, row: Row) -> Result<Seq<u32>, OutOfMemory>
     ensures { IfOk result (λ slots.
-        spec.AreSlotsFrom solved.now.program.now solved.now.sig.now tables.now
-        (is_written solved.now.encoding solved.now.files.now solved.now.tokens.now
-        (map file_view solved.now.trees.now) solved.now.program.now solved.now.sig.now)
-        (item_of_row solved.now.program.now solved.now.sig.now row tables.now) slots) }
+        spec.AreSlotsFrom lexed.now.traced.now.program lexed.now.traced.now.sig lexed.now.traced.now.tables
+        (is_written lexed.now.traced.now.encoding lexed.now.traced.now.files lexed.now.tokens.now
+        (map file_view lexed.now.trees.now) lexed.now.traced.now.program lexed.now.traced.now.sig)
+        (item_of_row lexed.now.traced.now.program lexed.now.traced.now.sig row lexed.now.traced.now.tables) slots) }
 {
-    what_stands_has_a_chain();
-    match item_of(solved.program, solved.sig, tables, overriders, row) {
+    match lexed.traced.item_of(row) {
         None => Ok(Seq::new(alloc)),
-        Some(item) => slots_from(alloc, solved, origins, item),
+        Some(item) => slots_from(alloc, lexed, item),
     }
 }
 
@@ -185,31 +146,16 @@ fn slots_of_row(
 ///
 /// # Errors
 /// No memory was found.
-pub fn slots_of(
-    alloc: Global,
-    solved: &Solved,
-    tables: &[FlowTable],
-    overriders: &[Overrider],
-    origins: &LeastOrigins,
-    rows: &[Row],
-) -> Result<Vec<Seq<u32>>, OutOfMemory>
-    requires fit { AllFit solved.now.files.now }
-    requires inferable { IsInferable solved.now.program.now }
-    requires least { IsLeastSignature solved.now.program.now solved.now.sig.now }
-    requires solved { AreLeastTables solved.now.program.now solved.now.sig.now tables.now }
-    requires overriders { AreOverriders solved.now.program.now overriders.now }
-    requires program { origins.now.program ≡ solved.now.program.now }
-    requires sig { origins.now.sig ≡ solved.now.sig.now }
-    requires tables { origins.now.tables ≡ tables.now }
+pub fn slots_of(alloc: Global, lexed: &Lexed, rows: &[Row]) -> Result<Vec<Seq<u32>>, OutOfMemory>
     ensures { IfOk result (λ wants.
-        spec.AreSlotsOf solved.now.program.now solved.now.sig.now tables.now
-        (is_written solved.now.encoding solved.now.files.now solved.now.tokens.now
-        (map file_view solved.now.trees.now) solved.now.program.now solved.now.sig.now)
+        spec.AreSlotsOf lexed.now.traced.now.program lexed.now.traced.now.sig lexed.now.traced.now.tables
+        (is_written lexed.now.traced.now.encoding lexed.now.traced.now.files lexed.now.tokens.now
+        (map file_view lexed.now.trees.now) lexed.now.traced.now.program lexed.now.traced.now.sig)
         rows.now wants.items) }
 {
     let mut wants = Vec::new(alloc);
     for row in rows {
-        let slots = slots_of_row(alloc, solved, tables, overriders, origins, *row)?;
+        let slots = slots_of_row(alloc, lexed, *row)?;
         put(&mut wants, slots)?;
     }
     Ok(wants)

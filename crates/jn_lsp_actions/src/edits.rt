@@ -3,8 +3,10 @@ ghost use Rattle.std.specs.Prelude.{◌≡◌, ◌<◌, ◌^◌, drop, length, m
 ghost use Rattle.jn_recheck.specs.Files.{AllFit};
 ghost use Rattle.jn_trees.specs.View.{file_view};
 ghost use Rattle.jn_annotate.specs.Puts.{insertion, insertions};
+ghost use Rattle.jn_annotate.specs.Shared.{IsLeast, shared_slots};
 ghost use Rattle.jn_lsp_text.specs.Positions.{position_at};
-ghost use Rattle.jn_note_words.specs.Owned.{AreOwners};
+ghost use Rattle.jn_note_words.specs.Owned.{owner_of};
+ghost use Rattle.jn_note_words.specs.Worded.{owner_words};
 ghost use Rattle.jn_lsp_actions.specs.declared.edits.Writing.TheVariants.{Inferred, Null};
 ghost use Rattle.jn_lsp_actions.specs.Mended.{mended};
 ghost use Rattle.jn_lsp_actions.specs.Written as spec;
@@ -16,17 +18,19 @@ use jn_annotate::files::{fields_behind_types, file_puts, methods_behind_types};
 use jn_annotate::insert::Put;
 use jn_annotate::lines::with_lines;
 use jn_annotate::members::next_methods;
+use jn_annotate::shared::first_shared;
 use jn_annotate::taken::declares;
 use jn_annotate::words::is_unspelled;
 use jn_base::{OutOfMemory, Seq, SlotNo, Text};
 use jn_front::SourceFile;
 use jn_known::NULLABLE;
-use jn_lsp_text::{Action, Encoding, Insertion, Position, position_of};
-use jn_note_words::owners::{Owner, owner_at};
+use jn_lsp_solved::Traced;
+use jn_lsp_text::{Action, Encoding, Insertion, Position, SmallText, position_of};
+use jn_note_words::owners::owner_at;
 use jn_note_words::words::owner_words;
 use jn_points::{Field, Method, Program};
 use jn_sigs::Sig;
-use jn_trees::{FileTree, Names, Token};
+use jn_trees::{FileTree, Token};
 use std::alloc::{AllocError, Global};
 
 /// What is written of a slot: what is inferred of it, or that it may be null.
@@ -43,34 +47,28 @@ pub struct Edit {
     pub insertions: Seq<Insertion>,
 }
 
-/// Files, with the tokens and trees of each, with their program, the texts of its names, its least signature, whose slots are whose, and the unit of positions.
-#[derive(Drop)]
-pub struct Solved<'a> {
-    pub encoding: Encoding,
-    pub files: &'a [SourceFile],
+/// Solved files whose causes are asked for, with the tokens and trees of each.
+#[derive(Clone, Copy)]
+pub struct Lexed<'a> {
+    pub traced: &'a Traced<'a>,
     pub tokens: &'a [Seq<Token>],
     pub trees: &'a [FileTree],
-    pub names: &'a Names,
-    pub program: &'a Program,
-    pub sig: &'a Sig,
-    pub owners: &'a [Option<Owner>],
 }
 
 /// The position of a byte; that of the text's end where the text is shorter.
-fn position_within(encoding: Encoding, text: &[u8], at: usize) -> Position
-    requires small { length text.now < 2 ^ 30 }
+fn position_within(encoding: Encoding, text: &SmallText, at: usize) -> Position
     ensures { result ≡ position_at encoding text.now at }
 {
+    let text = text.bytes();
     position_of(encoding, text, at.min(text.len()))
 }
 
 fn insertion_of(
     alloc: Global,
     encoding: Encoding,
-    text: &[u8],
+    text: &SmallText,
     put: &Put,
 ) -> Result<Insertion, AllocError>
-    requires small { length text.now < 2 ^ 30 }
     ensures { IfOk result (λ made. made ≡ spec.insertion_at encoding text.now (insertion put.now)) }
 {
     Ok(Insertion {
@@ -82,10 +80,9 @@ fn insertion_of(
 fn insertions_of(
     alloc: Global,
     encoding: Encoding,
-    text: &[u8],
+    text: &SmallText,
     puts: &[Put],
 ) -> Result<Seq<Insertion>, AllocError>
-    requires small { length text.now < 2 ^ 30 }
     ensures { IfOk result (λ made. made ≡ map (spec.insertion_at encoding text.now) (insertions puts.now)) }
 {
     let mut made = Seq::new(alloc);
@@ -107,10 +104,13 @@ fn edit_of(
 {
     match puts {
         [] => Ok(None),
-        [_, ..] => Ok(Some(Edit {
-            name: file.name.copy(alloc)?,
-            insertions: insertions_of(alloc, encoding, file.bytes.as_slice(), puts)?,
-        })),
+        [_, ..] => {
+            let text = SmallText::of(file.bytes.as_slice());
+            Ok(Some(Edit {
+                name: file.name.copy(alloc)?,
+                insertions: insertions_of(alloc, encoding, &text, puts)?,
+            }))
+        }
     }
 }
 
@@ -231,7 +231,7 @@ fn title_front(writing: Writing) -> &'static [u8]
     }
 }
 
-impl<'a> Solved<'a> {
+impl<'a> Lexed<'a> {
     /// What writes the slot's annotation, of a program that has these slots.
     fn edit_with(
         &self,
@@ -240,53 +240,52 @@ impl<'a> Solved<'a> {
         slot: u32,
         program: &Program,
     ) -> Result<Option<Edit>, OutOfMemory>
-        requires fit { AllFit self.now.files.now }
         ensures { IfOk result (λ edit. edit
-            ≡ spec.first_edit writing slot program.now.slots self.now.sig.now self.now.encoding self.now.files.now
-            self.now.tokens.now (map file_view self.now.trees.now) self.now.program.now.fields
-            (drop 1 self.now.program.now.methods)) }
+            ≡ spec.first_edit writing slot program.now.slots self.now.traced.now.sig self.now.traced.now.encoding self.now.traced.now.files
+            self.now.tokens.now (map file_view self.now.trees.now) self.now.traced.now.program.fields
+            (drop 1 self.now.traced.now.program.methods)) }
     {
+        let parts = self.traced.parts();
         first_edit(
-            self.files,
+            parts.files.as_slice(),
             alloc,
-            self.encoding,
+            parts.encoding,
             writing,
             slot,
             program,
-            self.sig,
+            parts.sig,
             self.tokens,
             self.trees,
-            self.program.fields.as_slice(),
-            next_methods(self.program.methods.as_slice()),
+            parts.program.fields.as_slice(),
+            next_methods(parts.program.methods.as_slice()),
         )
     }
 
     /// What writes the inferred annotation of a slot.
     fn inferred_edit(&self, alloc: Global, slot: u32) -> Result<Option<Edit>, OutOfMemory>
-        requires fit { AllFit self.now.files.now }
         ensures { IfOk result (λ edit. edit
-            ≡ spec.edit_of_slot self.now.encoding self.now.files.now self.now.tokens.now
-            (map file_view self.now.trees.now) self.now.program.now self.now.sig.now Inferred
+            ≡ spec.edit_of_slot self.now.traced.now.encoding self.now.traced.now.files self.now.tokens.now
+            (map file_view self.now.trees.now) self.now.traced.now.program self.now.traced.now.sig Inferred
             slot) }
     {
-        if is_unspelled(self.sig.get(SlotNo(slot))) {
+        let parts = self.traced.parts();
+        if is_unspelled(parts.sig.get(SlotNo(slot))) {
             return Ok(None);
         }
-        let alone = alone_program(alloc, self.program, slot)?;
+        let alone = alone_program(alloc, parts.program, slot)?;
         self.edit_with(alloc, Writing::Inferred, slot, &alone)
     }
 
     /// What writes `@Nullable` for a slot.
     fn null_edit(&self, alloc: Global, slot: u32) -> Result<Option<Edit>, OutOfMemory>
-        requires fit { AllFit self.now.files.now }
         ensures { IfOk result (λ edit. edit
-            ≡ spec.edit_of_slot self.now.encoding self.now.files.now self.now.tokens.now
-            (map file_view self.now.trees.now) self.now.program.now self.now.sig.now Null slot) }
+            ≡ spec.edit_of_slot self.now.traced.now.encoding self.now.traced.now.files self.now.tokens.now
+            (map file_view self.now.trees.now) self.now.traced.now.program self.now.traced.now.sig Null slot) }
     {
         if declares(self.trees, NULLABLE) {
             return Ok(None);
         }
-        self.edit_with(alloc, Writing::Null, slot, self.program)
+        self.edit_with(alloc, Writing::Null, slot, self.traced.parts().program)
     }
 
     /// What is written of a slot; none where it can't be written alone. What is inferred isn't where no annotation says it, nor of a slot that
@@ -300,10 +299,9 @@ impl<'a> Solved<'a> {
         writing: Writing,
         slot: u32,
     ) -> Result<Option<Edit>, OutOfMemory>
-        requires fit { AllFit self.now.files.now }
         ensures { IfOk result (λ edit. edit
-            ≡ spec.edit_of_slot self.now.encoding self.now.files.now self.now.tokens.now
-            (map file_view self.now.trees.now) self.now.program.now self.now.sig.now writing
+            ≡ spec.edit_of_slot self.now.traced.now.encoding self.now.traced.now.files self.now.tokens.now
+            (map file_view self.now.trees.now) self.now.traced.now.program self.now.traced.now.sig writing
             slot) }
     {
         match writing {
@@ -317,23 +315,46 @@ impl<'a> Solved<'a> {
     /// # Errors
     /// No memory was found.
     pub fn is_written(&self, alloc: Global, slot: u32) -> Result<bool, OutOfMemory>
-        requires fit { AllFit self.now.files.now }
         ensures { IfOk result (λ written. written
-            ≡ spec.is_written self.now.encoding self.now.files.now self.now.tokens.now
-            (map file_view self.now.trees.now) self.now.program.now self.now.sig.now slot) }
+            ≡ spec.is_written self.now.traced.now.encoding self.now.traced.now.files self.now.tokens.now
+            (map file_view self.now.trees.now) self.now.traced.now.program self.now.traced.now.sig slot) }
     {
         let edit = self.inferred_edit(alloc, slot)?;
         Ok(edit.is_some())
     }
 
+    /// The least slot of a field that shares its type with one of another qualifier, where there is one.
+    ///
+    /// # Errors
+    /// No memory was found.
+    pub fn first_shared(&self, alloc: Global) -> Result<Option<u32>, OutOfMemory>
+        ensures { IfOk result (λ slot.
+            IsLeast slot
+            (shared_slots self.now.traced.now.program self.now.traced.now.sig
+            (map file_view self.now.trees.now) self.now.traced.now.program.fields)) }
+    {
+        let parts = self.traced.parts();
+        first_shared(alloc, parts.program, parts.sig, self.trees)
+    }
+
+    /// What has the slot, in words.
+    fn owner_of(&self, alloc: Global, slot: u32) -> Result<Vec<u8>, AllocError>
+        ensures { IfOk result (λ words. words.items
+            ≡ owner_words self.now.traced.now.program self.now.traced.now.names
+            (owner_of self.now.traced.now.program slot)) }
+    {
+        let parts = self.traced.parts();
+        let owner = owner_at(parts.owners, slot);
+        let words = owner_words(alloc, parts.program, parts.names, owner)?;
+        Ok(words)
+    }
+
     fn title_of(&self, alloc: Global, writing: Writing, slot: u32) -> Result<Text, AllocError>
-        requires owners { AreOwners self.now.program.now self.now.owners.now }
         ensures { IfOk result (λ title. title
-            ≡ spec.title_of self.now.program.now self.now.names.now writing slot) }
+            ≡ spec.title_of self.now.traced.now.program self.now.traced.now.names writing slot) }
     {
         let mut words = Vec::from_slice(alloc, title_front(writing))?;
-        let owner = owner_at(self.owners, slot);
-        let owner = owner_words(alloc, self.program, self.names, owner)?;
+        let owner = self.owner_of(alloc, slot)?;
         words.extend_from_slice(&owner)?;
         Ok(Text::of_string(String::from_utf8_lossy(alloc, &words)?))
     }
@@ -349,11 +370,9 @@ impl<'a> Solved<'a> {
         mending: &Mending,
         slot: u32,
     ) -> Result<Option<Action>, OutOfMemory>
-        requires fit { AllFit self.now.files.now }
-        requires owners { AreOwners self.now.program.now self.now.owners.now }
         ensures { IfOk result (λ action. option_to_list action
-            ≡ spec.give self.now.encoding self.now.files.now self.now.names.now self.now.tokens.now
-            (map file_view self.now.trees.now) self.now.program.now self.now.sig.now writing
+            ≡ spec.give self.now.traced.now.encoding self.now.traced.now.files self.now.traced.now.names self.now.tokens.now
+            (map file_view self.now.trees.now) self.now.traced.now.program self.now.traced.now.sig writing
             (mended mending.now.wants.now mending.now.diagnostics.now) slot) }
     {
         match self.edit_of_slot(alloc, writing, slot)? {

@@ -1,13 +1,11 @@
 //! The actions of slots, each once.
 ghost use Rattle.std.specs.Prelude.{◌≡◌, ◌++◌, cond, [], flat_map, map, option_to_list, IfOk, OnOk};
-ghost use Rattle.jn_note_words.specs.Owned.{AreOwners};
-ghost use Rattle.jn_recheck.specs.Files.{AllFit};
 ghost use Rattle.jn_trees.specs.View.{file_view};
 ghost use Rattle.jn_lsp_actions.specs.Mended as mends;
 ghost use Rattle.jn_lsp_actions.specs.Offered as spec;
 ghost use Rattle.jn_lsp_actions.specs.Written.{give};
 
-use crate::edits::{Solved, Writing};
+use crate::edits::{Lexed, Writing};
 use crate::mending::{Mending, comes};
 use jn_base::{OutOfMemory, Seq};
 use jn_lsp_text::Action;
@@ -16,24 +14,22 @@ use std::alloc::{AllocError, Global};
 /// The action of the slot, unless it comes again.
 fn given_here(
     alloc: Global,
-    solved: &Solved,
+    lexed: &Lexed,
     writing: Writing,
     mending: &Mending,
     slot: u32,
     slots: &[u32],
 ) -> Result<Option<Action>, OutOfMemory>
-    requires fit { AllFit solved.now.files.now }
-    requires owners { AreOwners solved.now.program.now solved.now.owners.now }
     ensures { IfOk result (λ action. option_to_list action
         ≡ cond (mends.comes slot slots.now) []
-        (give solved.now.encoding solved.now.files.now solved.now.names.now solved.now.tokens.now
-        (map file_view solved.now.trees.now) solved.now.program.now solved.now.sig.now writing
+        (give lexed.now.traced.now.encoding lexed.now.traced.now.files lexed.now.traced.now.names lexed.now.tokens.now
+        (map file_view lexed.now.trees.now) lexed.now.traced.now.program lexed.now.traced.now.sig writing
         (mends.mended mending.now.wants.now mending.now.diagnostics.now) slot)) }
 {
     if comes(slot, slots) {
         Ok(None)
     } else {
-        solved.action_of_slot(alloc, writing, mending, slot)
+        lexed.action_of_slot(alloc, writing, mending, slot)
     }
 }
 
@@ -50,24 +46,22 @@ fn push_some(actions: &mut Seq<Action>, action: Option<Action>) -> Result<(), Al
 fn put_each(
     actions: &mut Seq<Action>,
     alloc: Global,
-    solved: &Solved,
+    lexed: &Lexed,
     writing: Writing,
     mending: &Mending,
     slots: &[u32],
 ) -> Result<(), OutOfMemory>
-    requires fit { AllFit solved.now.files.now }
-    requires owners { AreOwners solved.now.program.now solved.now.owners.now }
     ensures { OnOk result (actions.new
         ≡ actions.old
-        ++ spec.given (give solved.now.encoding solved.now.files.now solved.now.names.now solved.now.tokens.now
-        (map file_view solved.now.trees.now) solved.now.program.now solved.now.sig.now writing
+        ++ spec.given (give lexed.now.traced.now.encoding lexed.now.traced.now.files lexed.now.traced.now.names lexed.now.tokens.now
+        (map file_view lexed.now.trees.now) lexed.now.traced.now.program lexed.now.traced.now.sig writing
         (mends.mended mending.now.wants.now mending.now.diagnostics.now)) slots.now) }
 {
     let mut rest = slots;
     while let [slot, more @ ..] = rest {
         push_some(
             actions,
-            given_here(alloc, solved, writing, mending, *slot, more)?,
+            given_here(alloc, lexed, writing, mending, *slot, more)?,
         )?;
         rest = more;
     }
@@ -92,18 +86,16 @@ fn all_slots(alloc: Global, wants: &[Seq<u32>]) -> Result<Vec<u32>, AllocError>
 pub fn put_given(
     actions: &mut Seq<Action>,
     alloc: Global,
-    solved: &Solved,
+    lexed: &Lexed,
     writing: Writing,
     mending: &Mending,
 ) -> Result<(), OutOfMemory>
-    requires fit { AllFit solved.now.files.now }
-    requires owners { AreOwners solved.now.program.now solved.now.owners.now }
     ensures { OnOk result (actions.new
         ≡ actions.old
-        ++ spec.given_for solved.now.encoding solved.now.files.now solved.now.names.now solved.now.tokens.now
-        (map file_view solved.now.trees.now) solved.now.program.now solved.now.sig.now writing
+        ++ spec.given_for lexed.now.traced.now.encoding lexed.now.traced.now.files lexed.now.traced.now.names lexed.now.tokens.now
+        (map file_view lexed.now.trees.now) lexed.now.traced.now.program lexed.now.traced.now.sig writing
         mending.now.wants.now mending.now.diagnostics.now) }
 {
     let slots = all_slots(alloc, mending.wants)?;
-    put_each(actions, alloc, solved, writing, mending, &slots)
+    put_each(actions, alloc, lexed, writing, mending, &slots)
 }

@@ -1,5 +1,5 @@
 //! Words at their positions in a text.
-ghost use Rattle.std.specs.Prelude.{◌≡◌, ◌<◌, ◌^◌, ◌++◌, ◌∷◌, [], filter, length, IfOk, OnOk};
+ghost use Rattle.std.specs.Prelude.{◌≡◌, ◌++◌, ◌∷◌, [], filter, IfOk, OnOk};
 ghost use Rattle.jn_annotate.specs.Puts.{insertions};
 ghost use Rattle.jn_lsp_actions.specs.Hinted as spec;
 
@@ -7,7 +7,7 @@ use crate::asking::meets;
 use jn_annotate::insert::Put;
 use jn_base::{Seq, Text};
 use jn_lsp_text::sweep::{place_of, start_of};
-use jn_lsp_text::{Encoding, Hint, Position, Range};
+use jn_lsp_text::{Encoding, Hint, Position, Range, SmallText};
 use std::alloc::{AllocError, Global};
 
 /// A hint, and the slot whose words it shows.
@@ -91,15 +91,15 @@ fn push_within(
 pub fn shown(
     alloc: Global,
     encoding: Encoding,
-    text: &[u8],
+    text: &SmallText,
     range: Range,
     slots: &[u32],
     puts: &[Put],
 ) -> Result<Seq<SlotHint>, AllocError>
-    requires small { length text.now < 2 ^ 30 }
     ensures { IfOk result
         (λ hints. hints ≡ spec.shown encoding text.now range slots.now (insertions puts.now)) }
 {
+    let text = text.bytes();
     let mut hints = Seq::new(alloc);
     let mut place = start_of(encoding, text);
     let mut rest = slots;

@@ -1,13 +1,11 @@
 //! The diagnostics that actions mend.
 ghost use Rattle.std.specs.Prelude.{◌≡◌, ◌++◌, ◌∷◌, [], cond, IfOk, OnOk};
-ghost use Rattle.jn_recheck.specs.Files.{AllFit};
 ghost use Rattle.jn_lsp_actions.specs.Mended as spec;
 
 use jn_base::{OutOfMemory, Row, Seq};
-use jn_front::SourceFile;
-use jn_lsp_solved::Marked;
 use jn_lsp_solved::related::diagnostic_of;
-use jn_lsp_text::{Diagnostic, Encoding};
+use jn_lsp_solved::{Marked, Traced};
+use jn_lsp_text::Diagnostic;
 use jn_note_words::Notes;
 use std::alloc::{AllocError, Global};
 
@@ -51,16 +49,14 @@ fn diagnostics_in(
 /// No memory was found.
 pub fn diagnostics_of(
     alloc: Global,
-    encoding: Encoding,
-    files: &[SourceFile],
+    traced: &Traced,
     rows: &[Row],
     notes: &[Notes],
 ) -> Result<Seq<Diagnostic>, OutOfMemory>
-    requires fit { AllFit files.now }
-    ensures { IfOk result
-        (λ made. made ≡ spec.diagnostics_of encoding files.now rows.now notes.now) }
+    ensures { IfOk result (λ made. made
+        ≡ spec.diagnostics_of traced.now.encoding traced.now.files rows.now notes.now) }
 {
-    let marked = Marked::new(alloc, encoding, files, rows.len() > 0)?;
+    let marked = traced.solved_files().marked(alloc, rows.len() > 0)?;
     let made = diagnostics_in(alloc, &marked, rows, notes)?;
     Ok(made)
 }

@@ -6,11 +6,11 @@ ghost use Rattle.jn_tables_law.specs.Inferable.{IsInferable};
 ghost use Rattle.jn_transfer.specs.Rules.{lacks_null};
 ghost use Rattle.jn_lsp_actions.specs.Own as spec;
 
-use crate::edits::Solved;
 use jn_base::lists::put;
 use jn_base::{FieldNo, MethodNo, OutOfMemory, Row, Seq, SlotNo, Span};
 use jn_contrib::Overrider;
 use jn_env::FlowTable;
+use jn_lsp_solved::Traced;
 use jn_note_words::owners::Owner;
 use jn_notes::pairs::{Part, part_of};
 use jn_notes::reads::{Sought, same_span, sought_of};
@@ -305,25 +305,18 @@ fn put_row(
 }
 
 /// The slots at which a row wants null.
-fn wants_of(
-    alloc: Global,
-    solved: &Solved,
-    tables: &[FlowTable],
-    overriders: &[Overrider],
-    row: Row,
-) -> Result<Seq<u32>, OutOfMemory>
-    requires inferable { IsInferable solved.now.program.now }
-    requires overriders { AreOverriders solved.now.program.now overriders.now }
+fn wants_of(alloc: Global, traced: &Traced, row: Row) -> Result<Seq<u32>, OutOfMemory>
     ensures { IfOk result (λ slots. slots
-        ≡ spec.row_wants solved.now.program.now solved.now.sig.now tables.now row) }
+        ≡ spec.row_wants traced.now.program traced.now.sig traced.now.tables row) }
 {
+    let parts = traced.parts();
     let mut slots = Vec::new(alloc);
     put_row(
         &mut slots,
-        solved.program,
-        solved.sig,
-        tables,
-        overriders,
+        parts.program,
+        parts.sig,
+        parts.tables,
+        parts.overriders,
         row,
     )?;
     Ok(Seq::of_vec(slots))
@@ -333,21 +326,13 @@ fn wants_of(
 ///
 /// # Errors
 /// No memory was found.
-pub fn rows_want(
-    alloc: Global,
-    solved: &Solved,
-    tables: &[FlowTable],
-    overriders: &[Overrider],
-    rows: &[Row],
-) -> Result<Vec<Seq<u32>>, OutOfMemory>
-    requires inferable { IsInferable solved.now.program.now }
-    requires overriders { AreOverriders solved.now.program.now overriders.now }
+pub fn rows_want(alloc: Global, traced: &Traced, rows: &[Row]) -> Result<Vec<Seq<u32>>, OutOfMemory>
     ensures { IfOk result (λ wants. wants.items
-        ≡ spec.rows_want solved.now.program.now solved.now.sig.now tables.now rows.now) }
+        ≡ spec.rows_want traced.now.program traced.now.sig traced.now.tables rows.now) }
 {
     let mut wants = Vec::new(alloc);
     for row in rows {
-        let slots = wants_of(alloc, solved, tables, overriders, *row)?;
+        let slots = wants_of(alloc, traced, *row)?;
         put(&mut wants, slots)?;
     }
     Ok(wants)

@@ -1,14 +1,10 @@
 //! From files to what is shown at a position of one of them.
-ghost use Rattle.std.specs.Prelude.{◌≡◌, ◌≤◌, ◌<◌, ◌^◌, IfOk, Some, length, map, option_map, slice_index_or};
-ghost use Rattle.jn_inference_law.specs.Solution.{IsLeastSignature};
-ghost use Rattle.jn_notes.specs.Noted.{AreLeastTables};
-ghost use Rattle.jn_phases.specs.Phases.{IsTypedOr, TypedProgramOf};
-ghost use Rattle.jn_places.specs.PlacedView.{placed_file};
-ghost use Rattle.jn_recheck.specs.Files.{AllFit, is_named, place_of};
-ghost use Rattle.jn_tables_law.specs.Inferable.{IsInferable};
+ghost use Rattle.std.specs.Prelude.{◌≡◌, IfOk, Some, filter, option_map};
+ghost use Rattle.jn_recheck.specs.Files.{is_named, place_of};
+ghost use Rattle.jn_lsp_hover.specs.Declarations as there;
 ghost use Rattle.jn_lsp_hover.specs.Hovered as spec;
+ghost use Rattle.jn_lsp_hover.specs.Spots.{IsNarrowestOf, is_there, spots_of};
 ghost use Rattle.jn_lsp_hover.specs.Values.{qual_of as qual_there};
-ghost use Rattle.jn_lsp_solved.specs.Related.{no_file};
 
 use crate::declared::{Declared, declared_at};
 use crate::search::narrowest;
@@ -20,37 +16,20 @@ use jn_base::{Infer, OutOfMemory, Seq, SlotNo, Span};
 use jn_front::SourceFile;
 use jn_heads::ClassHead;
 use jn_heads::extract::heads;
-use jn_index::BaseTyped;
-use jn_index::indexed::IndexedProgram;
-use jn_lsp_solved::Solved;
-use jn_lsp_solved::reasons::reasons_of;
 use jn_lsp_solved::related::all_related;
-use jn_lsp_text::{Encoding, Hover, Position, offset_of, range_of};
-use jn_note_words::owners::find_owners;
-use jn_notes::tables::least_tables;
-use jn_origins::LeastOrigins;
-use jn_origins::law::least_tables_are_sized;
-use jn_phases::{TypedFiles, too_many_files, type_files};
+use jn_lsp_solved::texts::text_at;
+use jn_lsp_solved::{Solved, Traced, find_solved};
+use jn_lsp_text::{Encoding, Hover, Position, SmallText, offset_of, range_of};
+use jn_note_words::Note;
 use jn_quals::Qual;
-use jn_recheck::reads::reads_of;
+use jn_recheck::FileSet;
 use jn_sharing::{Gate, Workers};
-use jn_sigs::Sig;
-use jn_system::solve_sig;
-use jn_tables_law::law::regular_programs_can_be_inferred;
-use jn_trees::{FileTree, Names};
 use std::alloc::Global;
 use std::thread::Threads;
-
-/// The greatest number of files.
-const MOST_FILES: usize = 64;
 
 /// What is asked for: a position of the file of a name.
 #[derive(Clone, Copy)]
 struct Asked<'a> {
-    /// The members that are inferred.
-    infer: Infer,
-    /// The unit of positions.
-    encoding: Encoding,
     name: &'a str,
     position: Position,
 }
@@ -60,131 +39,152 @@ struct Asked<'a> {
 fn value_hover(
     alloc: Global,
     encoding: Encoding,
-    text: &[u8],
+    text: &SmallText,
     span: Span,
     qual: Qual,
 ) -> Result<Hover, OutOfMemory>
-    requires small { length text.now < 2 ^ 30 }
     ensures { IfOk result (λ hover. hover ≡ spec.value_hover encoding text.now span qual) }
 {
     Ok(Hover {
-        range: range_of(encoding, text, span.from, span.to),
+        range: range_of(encoding, text.bytes(), span.from, span.to),
         words: qual_words(alloc, qual)?,
         related: Seq::new(alloc),
     })
 }
 
+/// What a value may be.
+fn qual_at(alloc: Global, solved: &Solved, spot: Spot) -> Result<Option<Qual>, OutOfMemory>
+    ensures { IfOk result (λ qual. qual
+        ≡ qual_there solved.now.program solved.now.sig solved.now.tables spot) }
+{
+    let parts = solved.parts();
+    qual_of(alloc, parts.program, parts.sig, parts.tables, spot)
+}
+
 fn of_spot(
     alloc: Global,
     solved: &Solved,
-    text: &[u8],
+    text: &SmallText,
     spot: Spot,
 ) -> Result<Option<Hover>, OutOfMemory>
-    requires small { length text.now < 2 ^ 30 }
-    requires inferable { IsInferable solved.now.program.now }
-    requires solved { AreLeastTables solved.now.program.now solved.now.sig.now solved.now.tables.now }
     ensures { IfOk result (λ hover. hover
         ≡ option_map (spec.value_hover solved.now.encoding text.now spot.span)
-        (qual_there solved.now.program.now solved.now.sig.now solved.now.tables.now spot)) }
+        (qual_there solved.now.program solved.now.sig solved.now.tables spot)) }
 {
-    least_tables_are_sized();
-    match qual_of(alloc, solved.program, solved.sig, solved.tables, spot)? {
+    let encoding = solved.parts().encoding;
+    match qual_at(alloc, solved, spot)? {
         None => Ok(None),
-        Some(qual) => Ok(Some(value_hover(alloc, solved.encoding, text, spot.span, qual)?)),
+        Some(qual) => Ok(Some(value_hover(alloc, encoding, text, spot.span, qual)?)),
     }
+}
+
+/// What is shown of a slot, whose name stands at the span, with these notes.
+fn slot_hover(
+    alloc: Global,
+    solved: &Solved,
+    text: &SmallText,
+    span: Span,
+    slot: SlotNo,
+    notes: &[Note],
+) -> Result<Hover, OutOfMemory>
+    ensures { IfOk result (λ hover. hover
+        ≡ spec.slot_hover solved.now.encoding solved.now.files solved.now.names solved.now.program
+        solved.now.sig solved.now.tables text.now span slot.0 notes.now) }
+{
+    let parts = solved.parts();
+    Ok(Hover {
+        range: range_of(parts.encoding, text.bytes(), span.from, span.to),
+        words: slot_words(
+            alloc,
+            parts.program,
+            parts.names,
+            parts.owners,
+            slot.0,
+            parts.sig.get(slot),
+        )?,
+        related: all_related(alloc, parts.encoding, parts.files, notes)?,
+    })
 }
 
 fn of_slot(
     alloc: Global,
     solved: &Solved,
-    indexed: &IndexedProgram,
-    text: &[u8],
+    text: &SmallText,
     span: Span,
     slot: SlotNo,
 ) -> Result<Option<Hover>, OutOfMemory>
-    requires small { length text.now < 2 ^ 30 }
-    requires fit { AllFit solved.now.files.now }
-    requires inferable { IsInferable solved.now.program.now }
-    requires least { IsLeastSignature solved.now.program.now solved.now.sig.now }
-    requires solved { AreLeastTables solved.now.program.now solved.now.sig.now solved.now.tables.now }
-    requires indexed { indexed.now ≡ solved.now.program.now }
     ensures { IfOk result (λ hover.
-        spec.IsOfSlot solved.now.encoding solved.now.files.now solved.now.names.now solved.now.program.now
-        solved.now.sig.now solved.now.tables.now text.now span (Some slot) hover) }
+        spec.IsOfSlot solved.now.encoding solved.now.files solved.now.names solved.now.program
+        solved.now.sig solved.now.tables text.now span (Some slot) hover) }
 {
-    least_tables_are_sized();
-    let owners = find_owners(alloc, solved.program)?;
-    let origins = LeastOrigins::new(alloc, indexed, solved.sig, solved.tables)?;
-    let notes = reasons_of(alloc, solved, &origins, &owners, slot.0)?;
-    Ok(Some(Hover {
-        range: range_of(solved.encoding, text, span.from, span.to),
-        words: slot_words(
-            alloc,
-            solved.program,
-            solved.names,
-            &owners,
-            slot.0,
-            solved.sig.get(slot),
-        )?,
-        related: all_related(alloc, solved.encoding, solved.files, &notes)?,
-    }))
+    let traced = Traced::new(alloc, solved)?;
+    let notes = traced.reasons_of(alloc, slot.0)?;
+    let hover = slot_hover(alloc, solved, text, span, slot, &notes)?;
+    Ok(Some(hover))
 }
 
 fn of_declared(
     alloc: Global,
     solved: &Solved,
-    indexed: &IndexedProgram,
-    text: &[u8],
+    text: &SmallText,
     declared: Option<Declared>,
 ) -> Result<Option<Hover>, OutOfMemory>
-    requires small { length text.now < 2 ^ 30 }
-    requires fit { AllFit solved.now.files.now }
-    requires inferable { IsInferable solved.now.program.now }
-    requires least { IsLeastSignature solved.now.program.now solved.now.sig.now }
-    requires solved { AreLeastTables solved.now.program.now solved.now.sig.now solved.now.tables.now }
-    requires indexed { indexed.now ≡ solved.now.program.now }
     ensures { IfOk result (λ hover.
-        spec.IsOfDeclared solved.now.encoding solved.now.files.now solved.now.names.now solved.now.program.now
-        solved.now.sig.now solved.now.tables.now text.now declared hover) }
+        spec.IsOfDeclared solved.now.encoding solved.now.files solved.now.names solved.now.program
+        solved.now.sig solved.now.tables text.now declared hover) }
 {
     match declared {
         None => Ok(None),
         Some(one) => match one.slot {
             None => Ok(None),
-            Some(slot) => of_slot(alloc, solved, indexed, text, one.span, slot),
+            Some(slot) => of_slot(alloc, solved, text, one.span, slot),
         },
     }
+}
+
+/// The narrowest value at a byte.
+fn spot_at(solved: &Solved, file: usize, text: &[u8], offset: usize) -> Option<Spot>
+    ensures { IsNarrowestOf
+        (filter (is_there solved.now.program file text.now offset) (spots_of solved.now.program)) result }
+{
+    let parts = solved.parts();
+    narrowest(&Sought {
+        program: parts.program,
+        file,
+        text,
+        offset,
+    })
+}
+
+/// The declaration whose name has a byte.
+fn declaration_at(
+    solved: &Solved,
+    heads: &[ClassHead],
+    file: usize,
+    offset: usize,
+) -> Option<Declared>
+    ensures { result ≡ there.declared_at file offset (there.declared_in heads.now solved.now.program) }
+{
+    let parts = solved.parts();
+    declared_at(file, offset, heads, parts.program)
 }
 
 fn at_byte(
     alloc: Global,
     solved: &Solved,
-    indexed: &IndexedProgram,
     heads: &[ClassHead],
     file: usize,
-    text: &[u8],
+    text: &SmallText,
     offset: usize,
 ) -> Result<Option<Hover>, OutOfMemory>
-    requires small { length text.now < 2 ^ 30 }
-    requires fit { AllFit solved.now.files.now }
-    requires inferable { IsInferable solved.now.program.now }
-    requires least { IsLeastSignature solved.now.program.now solved.now.sig.now }
-    requires solved { AreLeastTables solved.now.program.now solved.now.sig.now solved.now.tables.now }
-    requires indexed { indexed.now ≡ solved.now.program.now }
     ensures { IfOk result (λ hover.
-        spec.IsAtByte solved.now.encoding solved.now.files.now solved.now.names.now solved.now.program.now
-        solved.now.sig.now solved.now.tables.now heads.now file text.now offset hover) }
+        spec.IsAtByte solved.now.encoding solved.now.files solved.now.names solved.now.program
+        solved.now.sig solved.now.tables heads.now file text.now offset hover) }
 {
-    let sought = Sought {
-        program: solved.program,
-        file,
-        text,
-        offset,
-    };
-    match narrowest(&sought) {
+    match spot_at(solved, file, text.bytes(), offset) {
         None => {
-            let declared = declared_at(file, offset, heads, solved.program);
-            of_declared(alloc, solved, indexed, text, declared)
+            let declared = declaration_at(solved, heads, file, offset);
+            of_declared(alloc, solved, text, declared)
         }
         Some(spot) => of_spot(alloc, solved, text, spot),
     }
@@ -211,142 +211,41 @@ fn place_of(files: &[SourceFile], name: &str) -> Option<usize>
     None
 }
 
-/// The text of the file of a number; empty where there is none.
-fn text_of(files: &[SourceFile], file: usize) -> &[u8]
-    requires fit { AllFit files.now }
-    ensures is { result.now ≡ (slice_index_or files.now file no_file).bytes }
-    ensures small { length result.now < 2 ^ 30 }
-{
-    match files.get(file) {
-        None => &[],
-        Some(file) => file.bytes.as_slice(),
-    }
-}
-
 fn at_place(
     alloc: Global,
     solved: &Solved,
-    indexed: &IndexedProgram,
     heads: &[ClassHead],
     position: Position,
     place: Option<usize>,
 ) -> Result<Option<Hover>, OutOfMemory>
-    requires fit { AllFit solved.now.files.now }
-    requires inferable { IsInferable solved.now.program.now }
-    requires least { IsLeastSignature solved.now.program.now solved.now.sig.now }
-    requires solved { AreLeastTables solved.now.program.now solved.now.sig.now solved.now.tables.now }
-    requires indexed { indexed.now ≡ solved.now.program.now }
     ensures { IfOk result (λ hover.
-        spec.IsAtPlace solved.now.encoding solved.now.files.now solved.now.names.now solved.now.program.now
-        solved.now.sig.now solved.now.tables.now heads.now position place hover) }
+        spec.IsAtPlace solved.now.encoding solved.now.files solved.now.names solved.now.program
+        solved.now.sig solved.now.tables heads.now position place hover) }
 {
     match place {
         None => Ok(None),
         Some(file) => {
-            let text = text_of(solved.files, file);
-            let offset = offset_of(solved.encoding, text, position);
-            at_byte(alloc, solved, indexed, heads, file, text, offset)
+            let parts = solved.parts();
+            let text = text_at(parts.files, file);
+            let offset = offset_of(parts.encoding, text.bytes(), position);
+            at_byte(alloc, solved, heads, file, &text, offset)
         }
     }
 }
 
 // ---- of files
 
-/// Of files with this program, whose least signature this is.
-fn of_solved(
-    alloc: Global,
-    files: &[SourceFile],
-    names: &Names,
-    trees: &[FileTree],
-    base: &BaseTyped,
-    sig: &Sig,
-    asked: &Asked,
-) -> Result<Option<Hover>, OutOfMemory>
-    requires fit { AllFit files.now }
-    requires program { (typed : TypedProgramOf asked.now.infer files.now names.now base.now)
-        × (typed.of_files.trees ≡ map placed_file trees.now) }
-    requires inferable { IsInferable base.now }
-    requires least { IsLeastSignature base.now sig.now }
+/// Of solved files.
+fn of_solved(alloc: Global, solved: &Solved, asked: &Asked) -> Result<Option<Hover>, OutOfMemory>
     ensures { IfOk result (λ hover.
-        spec.IsHover asked.now.infer asked.now.encoding files.now asked.now.name.now asked.now.position hover) }
+        spec.IsHover solved.now.infer solved.now.encoding solved.now.files asked.now.name.now asked.now.position hover) }
 {
-    let program = base.program();
-    let tables = least_tables(alloc, program, sig)?;
-    let heads = heads(alloc, trees)?;
-    let solved = Solved {
-        encoding: asked.encoding,
-        files,
-        names,
-        program,
-        sig,
-        tables: &tables,
-    };
-    let place = place_of(files, asked.name);
-    let hover = at_place(
-        alloc,
-        &solved,
-        base.indexed(),
-        heads.as_slice(),
-        asked.position,
-        place,
-    )?;
+    solved.facts();
+    let parts = solved.parts();
+    let heads = heads(alloc, parts.trees)?;
+    let place = place_of(parts.files.as_slice(), asked.name);
+    let hover = at_place(alloc, solved, heads.as_slice(), asked.position, place)?;
     Ok(hover)
-}
-
-/// Of files with this program.
-fn of_program<R: Threads + Sync, G: Gate + Sync>(
-    rt: &R,
-    gate: &G,
-    alloc: Global,
-    workers: Workers,
-    files: &[SourceFile],
-    names: &Names,
-    trees: &[FileTree],
-    base: &BaseTyped,
-    asked: &Asked,
-) -> Result<Option<Hover>, OutOfMemory>
-    requires fit { AllFit files.now }
-    requires program { (typed : TypedProgramOf asked.now.infer files.now names.now base.now)
-        × (typed.of_files.trees ≡ map placed_file trees.now) }
-    ensures { IfOk result (λ hover.
-        spec.IsHover asked.now.infer asked.now.encoding files.now asked.now.name.now asked.now.position hover) }
-{
-    regular_programs_can_be_inferred();
-    let sig = solve_sig(rt, alloc, base.indexed(), workers, gate)?;
-    of_solved(alloc, files, names, trees, base, &sig, asked)
-}
-
-/// Of files of which this was found before their rules.
-#[tactic(auto, using(crate::proofs::Shown::of_refused))]
-fn finish<R: Threads + Sync, G: Gate + Sync>(
-    rt: &R,
-    gate: &G,
-    alloc: Global,
-    workers: Workers,
-    files: &[SourceFile],
-    found: &TypedFiles,
-    asked: &Asked,
-) -> Result<Option<Hover>, OutOfMemory>
-    requires fit { AllFit files.now }
-    requires typed { IsTypedOr asked.now.infer files.now found.now.names
-        (map placed_file found.now.trees.items) found.now.rows found.now.base }
-    ensures { IfOk result (λ hover.
-        spec.IsHover asked.now.infer asked.now.encoding files.now asked.now.name.now asked.now.position hover) }
-{
-    match &found.base {
-        None => Ok(None),
-        Some(base) => of_program(
-            rt,
-            gate,
-            alloc,
-            workers,
-            files,
-            &found.names,
-            &found.trees,
-            base,
-            asked,
-        ),
-    }
 }
 
 /// What is shown at a position of the file of a name, among files whose program is inferred anew by so many workers, where these members are
@@ -369,31 +268,14 @@ pub fn hover_for<R: Threads + Sync, G: Gate + Sync>(
     workers: Workers,
     infer: Infer,
     encoding: Encoding,
-    files: &[SourceFile],
+    files: &FileSet,
     name: &str,
     position: Position,
 ) -> Result<Option<Hover>, OutOfMemory>
-    requires fit { AllFit files.now }
     ensures { IfOk result (λ hover. spec.IsHover infer encoding files.now name.now position hover) }
 {
-    if files.len() > MOST_FILES {
-        too_many_files(alloc)?;
-        return Ok(None);
+    match find_solved(rt, gate, alloc, workers, infer, encoding, files)? {
+        None => Ok(None),
+        Some(solved) => of_solved(alloc, &solved, &Asked { name, position }),
     }
-    let reads = reads_of(alloc, files)?;
-    let found = type_files(rt, gate, alloc, workers, infer, &reads)?;
-    finish(
-        rt,
-        gate,
-        alloc,
-        workers,
-        files,
-        &found,
-        &Asked {
-            infer,
-            encoding,
-            name,
-            position,
-        },
-    )
 }

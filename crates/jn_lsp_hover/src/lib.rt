@@ -3,7 +3,7 @@
 //!
 //! [`hover_for`] infers the files' program anew. At a position it takes the narrowest text that a point reads or makes ([`search`]), and says
 //! what the value may be there by the least table of its body ([`values`]). Where there is none, it takes the field, method or parameter whose name
-//! stands there ([`declared`]), and says what its slot has, with the first chain of causes of each bit ([`jn_lsp_solved::reasons`]), as notes say them.
+//! stands there ([`declared`]), and says what its slot has, with the first chain of causes of each bit ([`jn_lsp_solved::Traced::reasons_of`]), as notes say them.
 #![tactic(auto)]
 
 pub mod declared;

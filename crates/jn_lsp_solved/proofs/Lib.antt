@@ -1,3 +1,4 @@
 pub mod Fitting
 pub mod Marking
 pub mod Reasoning
+pub mod Tracing

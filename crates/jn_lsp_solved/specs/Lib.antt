@@ -1,3 +1,4 @@
 pub mod Related
 pub mod Marking
 pub mod Reasons
+pub mod Solving

@@ -1,14 +1,15 @@
 //! Files among which many places are asked for.
-ghost use Rattle.std.specs.Prelude.{◌≡◌, ◌<◌, ◌^◌, IfOk, length, slice_index_or};
-ghost use Rattle.jn_lsp_solved.specs.Marking.{AreMarks, counted_text};
+ghost use Rattle.std.specs.Prelude.{◌≡◌, IfOk, slice_index_or};
+ghost use Rattle.jn_lsp_solved.specs.Marking.{AreMarks};
 ghost use Rattle.jn_lsp_solved.specs.Related.{no_file};
 ghost use Rattle.jn_lsp_text.specs.Ranges.{range_at};
-ghost use Rattle.jn_recheck.specs.Files.{AllFit};
 
+use crate::texts::text_at;
 use jn_base::OutOfMemory;
 use jn_base::lists::put;
 use jn_front::SourceFile;
 use jn_lsp_text::{Encoding, Marks, Range, range_of};
+use jn_recheck::FileSet;
 use std::alloc::Global;
 use std::marker::Model;
 
@@ -17,31 +18,18 @@ use std::marker::Model;
 #[derive(Drop)]
 pub struct Marked<'a> {
     encoding: Encoding,
-    files: &'a [SourceFile],
+    files: &'a FileSet,
     marks: Vec<Marks<'a>>,
 }
 
 impl<'a> Model for Marked<'a> {
     ghost use Rattle.jn_lsp_solved.specs.Marking.{AreMarks, CountedFiles};
-    ghost use Rattle.jn_recheck.specs.Files.{AllFit};
 
     ghost Value = { CountedFiles };
 
     ghost view = { λ m. record { encoding = m.encoding; files = m.files.now } };
 
-    ghost invariant = { λ m. (AllFit m.files.now) × (AreMarks m.encoding m.files.now m.marks.items) };
-}
-
-/// The marks of a file's text.
-fn marks_of_file<'a>(
-    alloc: Global,
-    encoding: Encoding,
-    file: &'a SourceFile,
-) -> Result<Marks<'a>, OutOfMemory>
-    requires small { length file.now.bytes < 2 ^ 30 }
-    ensures { IfOk result (λ marks. marks ≡ counted_text encoding file.now) }
-{
-    Marks::new(alloc, encoding, file.bytes.as_slice())
+    ghost invariant = { λ m. AreMarks m.encoding m.files.now m.marks.items };
 }
 
 /// The marks of each file.
@@ -49,14 +37,16 @@ fn marks_of_file<'a>(
 fn marks_of<'a>(
     alloc: Global,
     encoding: Encoding,
-    files: &'a [SourceFile],
+    files: &'a FileSet,
 ) -> Result<Vec<Marks<'a>>, OutOfMemory>
-    requires fit { AllFit files.now }
     ensures { IfOk result (λ marks. AreMarks encoding files.now marks.items) }
 {
     let mut marks = Vec::new(alloc);
-    for file in files {
-        put(&mut marks, marks_of_file(alloc, encoding, file)?)?;
+    for file in files.as_slice() {
+        put(
+            &mut marks,
+            Marks::new(alloc, encoding, file.bytes.as_slice())?,
+        )?;
     }
     Ok(marks)
 }
@@ -66,10 +56,9 @@ fn marks_of<'a>(
 fn marks_for<'a>(
     alloc: Global,
     encoding: Encoding,
-    files: &'a [SourceFile],
+    files: &'a FileSet,
     many: bool,
 ) -> Result<Vec<Marks<'a>>, OutOfMemory>
-    requires fit { AllFit files.now }
     ensures { IfOk result (λ marks. AreMarks encoding files.now marks.items) }
 {
     if many {
@@ -87,10 +76,9 @@ impl<'a> Marked<'a> {
     pub fn new(
         alloc: Global,
         encoding: Encoding,
-        files: &'a [SourceFile],
+        files: &'a FileSet,
         many: bool,
     ) -> Result<Marked<'a>, OutOfMemory>
-        requires fit { AllFit files.now }
         ensures { IfOk result (λ marked. marked ≡ record { encoding = encoding; files = files.now }) }
     {
         let marks = marks_for(alloc, encoding, files, many)?;
@@ -103,8 +91,14 @@ impl<'a> Marked<'a> {
 
     /// The files.
     pub fn files(&self) -> &'a [SourceFile]
-        ensures is { result.now ≡ self.now.files }
-        ensures fit { AllFit result.now }
+        ensures { result.now ≡ self.now.files }
+    {
+        self.files.as_slice()
+    }
+
+    /// The files as a set.
+    pub fn file_set(&self) -> &'a FileSet
+        ensures { result.now ≡ self.now.files }
     {
         self.files
     }
@@ -120,10 +114,7 @@ impl<'a> Marked<'a> {
     fn counted(&self, file: usize, from: u32, to: u32) -> Range
         ensures { result ≡ range_at self.now.encoding (slice_index_or self.now.files file no_file).bytes from to }
     {
-        match self.files.get(file) {
-            None => range_of(self.encoding, &[], from, to),
-            Some(file) => range_of(self.encoding, file.bytes.as_slice(), from, to),
-        }
+        range_of(self.encoding, text_at(self.files, file).bytes(), from, to)
     }
 
     /// The range of the bytes from `from` up to, and without, `to`, in the file of this number; where there is no such file, that of an empty text.

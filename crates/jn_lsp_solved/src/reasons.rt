@@ -1,16 +1,13 @@
 //! Why a slot has its bits.
 ghost use Rattle.std.specs.Prelude.{◌≡◌, ◌++◌, IfOk, slice_index_or};
-ghost use Rattle.jn_inference_law.specs.Solution.{IsLeastSignature};
-ghost use Rattle.jn_notes.specs.Noted.{AreFrom, AreLeastTables};
-ghost use Rattle.jn_note_words.specs.Owned.{AreOwners};
+ghost use Rattle.jn_notes.specs.Noted.{AreFrom};
 ghost use Rattle.jn_quals.specs.Order.{no_qual};
 ghost use Rattle.jn_reasons_law.specs.Items.{on};
-ghost use Rattle.jn_tables_law.specs.Inferable.{IsInferable};
 ghost use Rattle.jn_lsp_solved.specs.Reasons.{AreReasons, bit_item};
+ghost use Rattle.jn_lsp_solved.specs.Solving.{AreOriginsOf, AreParts, solved_of};
 
-use crate::solved::Solved;
+use crate::solved::Parts;
 use jn_base::{OutOfMemory, SlotNo};
-use jn_note_words::owners::Owner;
 use jn_note_words::{Note, Notes};
 use jn_notes::SolvedProgram;
 use jn_notes::explain::{no_notes, notes_from};
@@ -62,28 +59,19 @@ fn joined(notes: Notes, others: Notes) -> Result<Vec<Note>, AllocError>
 }
 
 /// The notes of the first chain of each bit that a slot has: that it may be null, and then that it may be under construction.
-///
-/// # Errors
-/// No memory was found.
-pub fn reasons_of(
+pub(crate) fn reasons_by(
     alloc: Global,
-    solved: &Solved,
+    parts: &Parts,
     origins: &LeastOrigins,
-    owners: &[Option<Owner>],
     slot: u32,
 ) -> Result<Vec<Note>, OutOfMemory>
-    requires inferable { IsInferable solved.now.program.now }
-    requires least { IsLeastSignature solved.now.program.now solved.now.sig.now }
-    requires solved { AreLeastTables solved.now.program.now solved.now.sig.now solved.now.tables.now }
-    requires program { origins.now.program ≡ solved.now.program.now }
-    requires sig { origins.now.sig ≡ solved.now.sig.now }
-    requires tables { origins.now.tables ≡ solved.now.tables.now }
-    requires owners { AreOwners solved.now.program.now owners.now }
+    requires hold { AreParts parts.now }
+    requires origins { AreOriginsOf (solved_of parts.now) origins.now }
     ensures { IfOk result (λ notes.
-        AreReasons solved.now.names.now solved.now.program.now
-        solved.now.sig.now solved.now.tables.now slot notes.items) }
+        AreReasons parts.now.names.now parts.now.program.now
+        parts.now.sig.now parts.now.tables.now slot notes.items) }
 {
-    let of = SolvedProgram::new(solved.names, owners, origins);
+    let of = SolvedProgram::new(parts.names, parts.owners, origins);
     let null = notes_of_bit(alloc, &of, slot, Bit::Nullable)?;
     let free = notes_of_bit(alloc, &of, slot, Bit::Free)?;
     let all = joined(null, free)?;

@@ -1,13 +1,13 @@
 //! Rows and notes at the files where they stand.
 ghost use Rattle.std.specs.Prelude.{◌≡◌, map, IfOk};
 ghost use Rattle.jn_lsp_solved.specs.Related as spec;
-ghost use Rattle.jn_recheck.specs.Files.{AllFit};
 
 use crate::marked::Marked;
 use jn_base::{OutOfMemory, Row, Seq, Span, Text};
 use jn_front::SourceFile;
 use jn_lsp_text::{Diagnostic, Encoding, Range, Related, Said};
 use jn_note_words::Note;
+use jn_recheck::FileSet;
 use std::alloc::{AllocError, Global};
 
 /// The number of the file where the span stands: of no file, the first.
@@ -92,10 +92,9 @@ pub fn all_related_in(
 pub fn all_related(
     alloc: Global,
     encoding: Encoding,
-    files: &[SourceFile],
+    files: &FileSet,
     notes: &[Note],
 ) -> Result<Seq<Related>, OutOfMemory>
-    requires fit { AllFit files.now }
     ensures { IfOk result (λ related. related ≡ map (spec.related_of encoding files.now) notes.now) }
 {
     let marked = Marked::new(alloc, encoding, files, false)?;

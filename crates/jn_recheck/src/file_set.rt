@@ -36,8 +36,24 @@ impl FileSet {
         }
     }
 
+    /// These files.
+    pub fn of(items: Vec<SourceFile>) -> FileSet
+        requires fit { AllFit items.items }
+        requires distinct { HaveOwnNames items.items }
+        ensures { result ≡ items.items }
+    {
+        FileSet { items }
+    }
+
+    /// The files, no longer as a set.
+    pub fn into_vec(self) -> Vec<SourceFile>
+        ensures { result.items ≡ self }
+    {
+        self.items
+    }
+
     /// The files.
-    pub(crate) fn as_slice(&self) -> &[SourceFile]
+    pub fn as_slice(&self) -> &[SourceFile]
         ensures are { result.now ≡ self.now }
         ensures fit { AllFit result.now }
         ensures distinct { HaveOwnNames result.now }
@@ -63,13 +79,11 @@ impl FileSet {
     }
 
     /// Has copies of these files in place of all that were there. On want of memory the files are as before.
-    pub(crate) fn replace(&mut self, alloc: Global, files: &[SourceFile]) -> Result<(), OutOfMemory>
-        requires fit { AllFit files.now }
-        requires distinct { HaveOwnNames files.now }
+    pub(crate) fn replace(&mut self, alloc: Global, files: &FileSet) -> Result<(), OutOfMemory>
         ensures are { OnOk result (self.new ≡ files.now) }
         ensures unchanged { OnErr result (self.new ≡ self.old) }
     {
-        self.items = copy_files(alloc, files)?;
+        self.items = copy_files(alloc, files.as_slice())?;
         Ok(())
     }
 }

@@ -1,7 +1,7 @@
 //! Rechecking after edits: a [`Session`] keeps files, and of its reports what serves the next one.
 #![tactic(auto)]
 
-mod file_set;
+pub mod file_set;
 mod files;
 mod kept;
 pub mod law;
@@ -15,4 +15,5 @@ pub mod session;
 mod shown;
 mod telling;
 
+pub use file_set::FileSet;
 pub use session::{Checked, Session};

@@ -138,9 +138,7 @@ impl Session {
     ///
     /// # Errors
     /// No memory was found, and the session is as before.
-    pub fn replace(&mut self, files: &[SourceFile]) -> Result<(), OutOfMemory>
-        requires fit { AllFit files.now }
-        requires distinct { HaveOwnNames files.now }
+    pub fn replace(&mut self, files: &FileSet) -> Result<(), OutOfMemory>
         ensures files { OnOk result (self.new.files ≡ files.now) }
         ensures unchanged { OnErr result (self.new.files ≡ self.old.files) }
         ensures infer { self.new.infer ≡ self.old.infer }

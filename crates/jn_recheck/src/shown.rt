@@ -2,10 +2,10 @@
 ghost use Rattle.std.specs.Prelude.{◌≡◌, ◌⊎◌, ◌≤◌, ◌<◌, ◌++◌, ◌∷◌, [], IfOk, OnOk, length, map};
 ghost use Rattle.jn_diag.specs.Shown.{row_shown};
 ghost use Rattle.jn_diag.specs.Sweep.{IsPosition};
-ghost use Rattle.jn_recheck.specs.Files.{AllFit};
 ghost use Rattle.jn_recheck.specs.Places.{IsPlaceIn};
 ghost use Rattle.jn_recheck.specs.Sessions.{text_of_row};
 
+use crate::file_set::FileSet;
 use jn_base::{OutOfMemory, Row, Span, Text};
 use jn_command::show::Place;
 use jn_diag::{Position, RowText, place_behind};
@@ -70,15 +70,15 @@ fn text_nowhere(alloc: Global, row: &Row) -> Result<RowText, OutOfMemory>
 /// The row as a reader sees it; the place goes there.
 fn text_of(
     alloc: Global,
-    files: &[SourceFile],
+    files: &FileSet,
     row: &Row,
     place: &mut Place,
 ) -> Result<RowText, OutOfMemory>
-    requires fit { AllFit files.now }
     requires is { IsPlaceIn files.now place.old }
     ensures shown { IfOk result (λ t. t ≡ text_of_row files.now row.now) }
     ensures is { IsPlaceIn files.now place.new }
 {
+    let files = files.as_slice();
     let file = row.span.file.0 as usize;
     if file < files.len() {
         *place = place_in(*place, file);
@@ -100,10 +100,9 @@ fn push_text(texts: &mut Vec<RowText>, text: RowText) -> Result<(), OutOfMemory>
 /// The rows as a reader sees them.
 pub(crate) fn row_texts(
     alloc: Global,
-    files: &[SourceFile],
+    files: &FileSet,
     rows: &[Row],
 ) -> Result<Vec<RowText>, OutOfMemory>
-    requires fit { AllFit files.now }
     ensures { IfOk result (λ texts. texts.items ≡ map (text_of_row files.now) rows.now) }
 {
     let mut texts = Vec::new(alloc);

@@ -27,7 +27,7 @@ fn show(
     ensures files { IfOk result (λ t. t.files ≡ changed last.now files.now) }
     ensures bodies { IfOk result (λ t. t.bodies ≡ made) }
 {
-    let rows = row_texts(alloc, files.as_slice(), report.rows())?;
+    let rows = row_texts(alloc, files, report.rows())?;
     let places = Vec::from_slice(alloc, report.rows())?;
     Ok(Checked {
         rows,

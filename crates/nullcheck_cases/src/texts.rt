@@ -4,9 +4,6 @@ use std::alloc::AllocError;
 use std::thread::Threads;
 use std::{fs, io};
 
-/// The folder of these tables.
-pub const FOLDER: &str = "texts/";
-
 /// The workers and the two files of a line such as `files=2 Empty.java Stack.java`.
 fn files_of(line: &str) -> Option<(u32, &str, &str)> {
     let (word, names) = line.split_once(' ')?;

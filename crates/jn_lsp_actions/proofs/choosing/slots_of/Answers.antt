@@ -7,6 +7,7 @@ use Rattle.jn_lsp_actions.proofs.choosing.slots_of.Goals as goal
 pub loop-row-preserved : goal.loop-row-preserved
 loop-row-preserved c =
     let lt : c.loop-row.row-index < length c.args.rows.now = omega (arith, c.loop-row-test.true) in
-    let solved = c.args.solved.now in
-    let test = is_written solved.encoding solved.files.now solved.tokens.now (map file_view solved.trees.now) solved.program.now solved.sig.now in
-    row_more solved.program.now solved.sig.now c.args.tables.now test c.args.rows.now c.loop-row.row-index _ c.in_ok-slots.slots c.loop-row.wants.items c.put.new.items.items lt c.in_ok-slots.ensures c.in_ok-put.ensures c.loop-row.invariant
+    let lexed = c.args.lexed.now in
+    let v = lexed.traced.now in
+    let test = is_written v.encoding v.files lexed.tokens.now (map file_view lexed.trees.now) v.program v.sig in
+    row_more v.program v.sig v.tables test c.args.rows.now c.loop-row.row-index _ c.in_ok-slots.slots c.loop-row.wants.items c.put.new.items.items lt c.in_ok-slots.ensures c.in_ok-put.ensures c.loop-row.invariant

@@ -5,4 +5,4 @@ use Rattle.jn_lsp_actions.specs.Written.{is_written}
 use Rattle.jn_lsp_actions.proofs.choosing.slots_of.Given as goal
 
 abbrev pub invariant-loop-row : goal.invariant-loop-row
-invariant-loop-row l = AreSlotsOf l.solved.program.now l.solved.sig.now l.tables (is_written l.solved.encoding l.solved.files.now l.solved.tokens.now (map file_view l.solved.trees.now) l.solved.program.now l.solved.sig.now) (take l.row-index l.rows) l.wants.items
+invariant-loop-row l = AreSlotsOf l.lexed.traced.now.program l.lexed.traced.now.sig l.lexed.traced.now.tables (is_written l.lexed.traced.now.encoding l.lexed.traced.now.files l.lexed.tokens.now (map file_view l.lexed.trees.now) l.lexed.traced.now.program l.lexed.traced.now.sig) (take l.row-index l.rows) l.wants.items

@@ -1,20 +1,8 @@
-use Rattle.std.proofs.Common.{List, sym, subst, ◌∙◌}
-use Rattle.jn_points.specs.declared.program.Program.{Program}
-use Rattle.jn_quals.specs.Qualifier.{Qualifier}
-use Rattle.jn_env.specs.Order.{Table}
-use Rattle.jn_reasons_law.specs.Items.{Stands}
-use Rattle.jn_reasons_law.specs.Chains.{HasChain}
+use Rattle.std.proofs.Common.{sym, ◌∙◌}
 use Rattle.jn_notes.proofs.Standing.{row_stands}
 use Rattle.jn_lsp_actions.proofs.choosing.slots_of_row.Goals as goal
 
-pub slots_from-requires-clause-chain : goal.slots_from-requires-clause-chain
-slots_from-requires-clause-chain c =
-    let P = c.args.solved.now.program.now in
-    let s = c.args.solved.now.sig.now in
-    let ts = c.args.tables.now in
-    let x = c.in-Some.item in
-    let st : Stands s ts x = row_stands s ts P c.args.row x (sym c.item_of.ensures ∙ c.in-Some.is) in
-    let h : HasChain P s ts x = c.what_stands_has_a_chain.ensures P s ts c.requires.inferable c.requires.least c.requires.solved.long c.requires.solved.least x st in
-    subst (λ (Q : Program). HasChain Q c.args.origins.now.sig c.args.origins.now.tables x) (sym c.requires.program)
-    (subst (λ (us : List Table). HasChain P c.args.origins.now.sig us x) (sym c.requires.tables)
-    (subst (λ (q : List Qualifier). HasChain P q ts x) (sym c.requires.sig) h))
+pub slots_from-requires : goal.slots_from-requires
+slots_from-requires c =
+    let v = c.args.lexed.now.traced.now in
+    record { stands = row_stands v.sig v.tables v.program c.args.row c.in-Some.item (sym c.item_of.ensures ∙ c.in-Some.is) }

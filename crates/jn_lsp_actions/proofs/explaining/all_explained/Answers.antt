@@ -7,6 +7,6 @@ use Rattle.jn_lsp_actions.proofs.explaining.all_explained.Goals as goal
 pub loop-one-preserved : goal.loop-one-preserved
 loop-one-preserved c =
     let lt : c.loop-one.one-index < length c.args.shown.now = omega (arith, c.loop-one-test.true) in
-    let solved = c.args.solved.now in
-    let is = subst (λ (one : SlotHint). IsExplained solved.encoding solved.files.now solved.names.now solved.program.now solved.sig.now solved.tables.now one c.in_ok-hint.hint) c.one-item.is c.in_ok-hint.ensures in
-    hint_more solved.encoding solved.files.now solved.names.now solved.program.now solved.sig.now solved.tables.now c.args.shown.now c.loop-one.one-index _ c.in_ok-hint.hint c.loop-one.hints.items c.put.new.items.items lt is c.in_ok-put.ensures c.loop-one.invariant
+    let traced = c.args.traced.now in
+    let is = subst (λ (one : SlotHint). IsExplained traced.encoding traced.files traced.names traced.program traced.sig traced.tables one c.in_ok-hint.hint) c.one-item.is c.in_ok-hint.ensures in
+    hint_more traced.encoding traced.files traced.names traced.program traced.sig traced.tables c.args.shown.now c.loop-one.one-index _ c.in_ok-hint.hint c.loop-one.hints.items c.put.new.items.items lt is c.in_ok-put.ensures c.loop-one.invariant

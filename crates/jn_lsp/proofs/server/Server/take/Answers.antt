@@ -25,10 +25,10 @@ returns-clause-takes g c =
     let answers = subst (λ t. AreAnswers i.phase t i.workspace c.args.event.now c.in_ok-direct.direct) c.as_slice.ensures.value c.in_ok-direct.ensures in
     let announced = subst (λ t. Announces c.in_ok-opened.opened workspace.versions t news.told.items news.publications) c.as_slice-in-Some.ensures.value found.announced in
     subst (λ (b : ServerOf). Takes b c.args.event.now c.in_ok-replies-in-Some.replies.items after) c.self.view_is
-    (takes_anew before next c.args.event.now c.in_ok-direct.direct news.publications c.in_ok-replies-in-Some.replies.items c.in_ok-opened.opened c.in_ok-moved.moved workspace news.files.items news.came news.all.items news.told.items c.keep.new.last c.behind_event-next.ensures answers c.in_ok-moved.ensures c.in-Some.is c.in_ok-opened.ensures found.told found.stood announced c.in_ok-replies-in-Some.ensures c.keep.ensures)
+    (takes_anew before next c.args.event.now c.in_ok-direct.direct news.publications c.in_ok-replies-in-Some.replies.items c.in_ok-opened.opened c.in_ok-moved.moved workspace news.files news.came news.all.items news.told.items c.keep.new.last c.behind_event-next.ensures answers c.in_ok-moved.ensures c.in-Some.is c.in_ok-opened.ensures found.told found.stood announced c.in_ok-replies-in-Some.ensures c.keep.ensures)
 
 pub invariant_of-self-in-Some : goal.invariant_of-self-in-Some
 invariant_of-self-in-Some g c =
     let news = c.in_ok-files-in-Some.field-0 in
     let found = c.in_ok-files-in-Some.ensures in
-    informed_anew c.in-Some.workspace c.self.inside.last c.keep.new.last news.came news.files.items news.all.items news.told.items found.told found.stood c.keep.ensures
+    informed_anew c.in-Some.workspace c.self.inside.last c.keep.new.last news.came news.files news.all.items news.told.items found.told found.stood c.keep.ensures
