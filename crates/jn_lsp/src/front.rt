@@ -4,7 +4,7 @@ ghost use Rattle.jn_lsp.specs.Front as spec;
 ghost use Rattle.jn_lsp.specs.declared.front.Gap.TheVariants.{Blank};
 
 use jn_base::place::is_line_end;
-use jn_lsp_text::{Encoding, Range, range_of};
+use jn_lsp_text::{Encoding, Range, SmallText, range_of};
 
 /// How a text goes on (JLS 8, 3.6 and 3.7).
 #[derive(Clone, Copy, Debug, PartialEq, Eq)]

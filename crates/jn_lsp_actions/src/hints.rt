@@ -99,16 +99,15 @@ pub fn shown(
     ensures { IfOk result
         (λ hints. hints ≡ spec.shown encoding text.now range slots.now (insertions puts.now)) }
 {
-    let text = text.bytes();
     let mut hints = Seq::new(alloc);
-    let mut place = start_of(encoding, text);
+    let mut place = start_of(encoding, text.bytes());
     let mut rest = slots;
     let mut left = puts;
     while let [slot, more @ ..] = rest {
         match left {
             [] => return Ok(hints),
             [put, others @ ..] => {
-                let (next, at) = place_of(encoding, text, place, put.at);
+                let (next, at) = place_of(encoding, text.bytes(), place, put.at);
                 push_within(alloc, &mut hints, range, *slot, at, put.words.as_slice())?;
                 place = next;
                 rest = more;

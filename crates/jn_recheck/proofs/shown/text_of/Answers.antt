@@ -1,6 +1,7 @@
 use Rattle.std.proofs.Common.{◌≡◌, List, length, ap, refl, sym, subst, arith}
 use Rattle.jn_front.specs.declared.source.SourceFile.{SourceFile}
 use Rattle.std.specs.Prelude.{IfOk}
+use Rattle.jn_command.specs.declared.show.Place.{Place}
 use Rattle.jn_recheck.specs.Places.{IsPlaceIn}
 use Rattle.jn_recheck.specs.Sessions.{text_of_row}
 use Rattle.jn_recheck.proofs.Showing.{fits_at, moved, row_nowhere, row_there, turned}
@@ -16,7 +17,7 @@ text_in-requires-clause-fits c =
 pub text_in-requires-clause-is : goal.text_in-requires-clause-is
 text_in-requires-clause-is c =
     let here = c.as_slice-files.result.now in
-    let is = subst (λ (fs : List SourceFile). IsPlaceIn fs c.args.place.now) (sym c.as_slice-files.ensures.are) c.requires in
+    let is = subst (λ (fs : List SourceFile). IsPlaceIn fs c.args.place.now) (sym c.as_slice-files.ensures.are) c.requires.is in
     turned here c.args.place.now c.place_in.result c.args.row.now.span.file.0 c.index-files-file.result is c.place_in.ensures c.if-file-files.true c.index-files-file.is
 
 pub returns-then-file-files-clause-shown : goal.returns-then-file-files-clause-shown
@@ -28,7 +29,7 @@ returns-then-file-files-clause-shown c =
 pub returns-then-file-files-clause-is : goal.returns-then-file-files-clause-is
 returns-then-file-files-clause-is c =
     let here = c.as_slice-files.result.now in
-    let place = record { file = c.place_in.result.file; position = c.text_in.new.position } in
+    let place : Place = record { file = c.place_in.result.file; position = c.text_in.new.position } in
     subst (λ (fs : List SourceFile). IsPlaceIn fs place) c.as_slice-files.ensures.are
     (moved here c.args.place.now c.place_in.result place c.args.row.now.span.file.0 c.index-files-file.result c.place_in.ensures refl c.if-file-files.true c.index-files-file.is c.text_in.ensures.is)
 
