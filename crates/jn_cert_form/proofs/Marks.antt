@@ -13,7 +13,7 @@ use Rattle.jn_cert_form.specs.Form.{ascending, key_bytes}
 use Rattle.jn_cert_form.specs.Pieces.{Rise, items_at}
 use Rattle.jn_cert_form.proofs.Built.{among_fields_is, among_keys_is, none_on_start}
 use Rattle.jn_cert_form.proofs.Nearby.{among, field_turned}
-use Rattle.jn_cert_form.proofs.OneReading.{Apart, apart_filter, ascending_in, below_apart, distinct_apart, field_self, here_on, key_self, key_turned, later_on, none_on, same_field, same_key}
+use Rattle.jn_cert_form.proofs.OneReading.{Apart, apart_filter, ascending_in, below_apart, distinct_apart, field_self, here_on, key_self, key_turned, later_on, same_field, same_key}
 
 -- the places are those of a list
 abbrev Inside : ℕ → List ℕ → Type 0

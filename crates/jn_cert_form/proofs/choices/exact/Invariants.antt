@@ -1,4 +1,4 @@
-use Rattle.std.proofs.Common.{◌≤◌, ◌+◌}
+use Rattle.std.proofs.Common.{◌≤◌}
 use Rattle.jn_cert_form.proofs.choices.exact.Given as goal
 
 abbrev pub invariant-loop-place : goal.invariant-loop-place
