@@ -5,7 +5,7 @@ use Rattle.jn_lsp.proofs.Rows.{told_more}
 use Rattle.jn_lsp.proofs.unchecked.unchecked_of_marked.Goals as goal
 
 pub unchecked_at-requires : goal.unchecked_at-requires
-unchecked_at-requires c = record { there = subst (λ (files : List SourceFile). c.loop-at.at < length files) c.files-files.ensures.is c.loop-at-test.true }
+unchecked_at-requires c = record { there = subst (λ (files : List SourceFile). c.loop-at.at < length files) c.files-files.ensures c.loop-at-test.true }
 
 pub loop-at-preserved : goal.loop-at-preserved
 loop-at-preserved c =
