@@ -147,11 +147,12 @@ pub fn find_solved<'a, R: Threads + Sync, G: Gate + Sync>(
 ) -> Result<Option<Solved<'a>>, OutOfMemory>
     ensures { IfOk result (λ solved. spec.AreSolvedOr infer encoding files.now solved) }
 {
-    if files.as_slice().len() > MOST_FILES {
+    let listed = files.as_slice();
+    if listed.len() > MOST_FILES {
         too_many_files(alloc)?;
         return Ok(None);
     }
-    let reads = reads_of(alloc, files.as_slice())?;
+    let reads = reads_of(alloc, listed)?;
     let found = type_files(rt, gate, alloc, workers, infer, &reads)?;
     solve_typed(
         rt, gate, alloc, workers, infer, encoding, files, reads, found,
