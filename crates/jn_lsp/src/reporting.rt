@@ -134,7 +134,8 @@ pub(crate) fn tell<R: Threads + Sync, G: Gate + Sync>(
 ) -> Result<Tale, OutOfMemory>
     ensures { IfOk result (λ tale. IsTold infer encoding last.now tale.came files.now tale.told.items) }
 {
-    if files.as_slice().is_empty() {
+    let listed = files.as_slice();
+    if listed.len() == 0 {
         return Ok(Tale {
             told: Vec::new(alloc),
             came: false,
