@@ -47,7 +47,7 @@ pub(crate) fn unary(state: &mut MachineState, dst: RegNo, negate: bool, of: RegN
         (spec.unary_of negate (prim_of (value_at state.old.top.regs of.0)))
         ≡ acted_next result state.new out }
 {
-    let got = straight::unary(&state.top, negate, of);
+    let got = straight::unary(negate, state.top.prim(of));
     settle(state, dst, got)
 }
 
@@ -65,7 +65,7 @@ pub(crate) fn binary(
         (prim_of (value_at state.old.top.regs right.0)))
         ≡ acted_next result state.new out }
 {
-    let got = straight::binary(&state.top, operator, left, right);
+    let got = straight::binary(operator, state.top.prim(left), state.top.prim(right));
     settle(state, dst, got)
 }
 
@@ -83,7 +83,9 @@ pub(crate) fn concat(
         (text_in (value_at state.old.top.regs right.0)))
         ≡ acted_next acted state.new out) }
 {
-    let got = straight::concat(alloc, &state.top, left, right)?;
+    let front = straight::shown(alloc, &state.top, left)?;
+    let rest = straight::shown(alloc, &state.top, right)?;
+    let got = straight::concat(alloc, front, rest)?;
     Ok(settle(state, dst, got))
 }
 
@@ -136,7 +138,7 @@ pub(crate) fn read_field(
         (object_of (value_at state.old.top.regs object.0)) field.0)
         ≡ acted_next acted state.new out) }
 {
-    let got = members::read_field(program, state, object, field)?;
+    let got = members::read_field(program, &state.heap, state.top.object(object), field)?;
     Ok(settle(state, dst, got))
 }
 
@@ -147,7 +149,7 @@ pub(crate) fn read_static(state: &mut MachineState, dst: RegNo, field: FieldNo) 
         (got_plain (got_prim (slice_get state.old.statics.items field.0)))
         ≡ acted_next result state.new out }
 {
-    let got = members::read_static(state, field);
+    let got = members::read_static(&state.statics, field);
     settle(state, dst, got)
 }
 
@@ -164,7 +166,7 @@ pub(crate) fn read_elem(
         (int_of (prim_of (value_at state.old.top.regs at.0))))
         ≡ acted_next acted state.new out) }
 {
-    let got = members::read_elem(state, array, at)?;
+    let got = members::read_elem(&state.heap, state.top.object(array), state.top.int(at))?;
     Ok(settle(state, dst, got))
 }
 
@@ -175,7 +177,7 @@ pub(crate) fn array_len(state: &mut MachineState, dst: RegNo, array: RegNo) -> A
         (spec.array_len state.old.heap.items (object_of (value_at state.old.top.regs array.0)))
         ≡ acted_next result state.new out }
 {
-    let got = members::array_len(state, array);
+    let got = members::array_len(&state.heap, state.top.object(array));
     settle(state, dst, got)
 }
 

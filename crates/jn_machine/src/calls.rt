@@ -89,10 +89,14 @@ pub(crate) fn array_of(
 }
 
 /// So many registers, the first of which hold the values.
-fn padded(alloc: Global, values: Seq<Value>, count: usize) -> Result<Vec<Option<Value>>, AllocError>
-    ensures { IfOk result (λ regs. regs.items ≡ spec.pad values count) }
+pub fn padded(
+    alloc: Global,
+    values: Vec<Value>,
+    count: usize,
+) -> Result<Vec<Option<Value>>, AllocError>
+    ensures { IfOk result (λ regs. regs.items ≡ spec.pad values.items count) }
 {
-    let mut rest = VecDeque::from_vec(values.into_vec());
+    let mut rest = VecDeque::from_vec(values);
     let mut regs = Vec::with_capacity(alloc, count)?;
     for _ in 0..count {
         regs.push(first_of(&mut rest))?;
@@ -119,7 +123,7 @@ pub(crate) fn entered(
 ) -> Result<Frame, AllocError>
     ensures { IfOk result (λ f. f ≡ spec.entered program.now body values) }
 {
-    let regs = padded(alloc, values, regs_of(program, body))?;
+    let regs = padded(alloc, values.into_vec(), regs_of(program, body))?;
     Ok(Frame::new(body, regs))
 }
 
@@ -193,8 +197,8 @@ fn enters(
     }
 }
 
-/// A value for each field, as it is first.
-fn defaults(alloc: Global, fields: &[Field]) -> Result<Vec<Value>, AllocError>
+/// A value for each field, as it is first (JLS 4.12.5).
+pub fn defaults(alloc: Global, fields: &[Field]) -> Result<Vec<Value>, AllocError>
     ensures { IfOk result (λ v. v.items ≡ defaults fields.now) }
 {
     let mut values = Vec::with_capacity(alloc, fields.len())?;
@@ -283,8 +287,8 @@ pub(crate) fn ctor_call(
     }
 }
 
-/// The method that a call on the object at a place runs.
-fn selected(
+/// The method that a call on the object at a place runs (JLS 15.12.4.4).
+pub fn selected(
     program: &Program,
     heap: &[Thing],
     place: usize,

@@ -1,7 +1,8 @@
 //! Frames.
-ghost use Rattle.std.specs.Prelude.{◌≡◌, ◌<◌, ◌+◌, ◌-◌, ◌^◌, Some, None, MatchOption, slice_set};
+ghost use Rattle.std.specs.Prelude.{◌≡◌, ◌<◌, ◌+◌, ◌-◌, ◌^◌, Some, None, MatchOption};
 ghost use Rattle.jn_heap.specs.State as spec;
 
+use crate::lists::put;
 use crate::prim::{Plain, Primitive};
 use crate::value::Value;
 use jn_base::RegNo;
@@ -32,15 +33,6 @@ fn register(regs: &[Option<Value>], at: usize) -> Option<&Value>
     match regs.get(at) {
         None => None,
         Some(held) => held.as_ref(),
-    }
-}
-
-/// Puts a value at a place of a list of registers, where that is there.
-fn put(regs: &mut [Option<Value>], at: usize, value: Value)
-    ensures { regs.new ≡ slice_set regs.old at (Some value) }
-{
-    if at < regs.len() {
-        regs[at] = Some(value);
     }
 }
 
@@ -127,7 +119,7 @@ impl Frame {
         requires { self.old.at < 2 ^ 64 - 1 }
         ensures { self.new ≡ spec.holds_at self.old dst.0 value }
     {
-        put(&mut self.regs, dst.0 as usize, value);
+        put(&mut self.regs, dst.0 as usize, Some(value));
         self.at += 1;
     }
 }

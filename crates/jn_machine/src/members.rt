@@ -1,5 +1,5 @@
 //! The points of fields, static fields, arrays, casts and tests of classes.
-ghost use Rattle.std.specs.Prelude.{◌≡◌, ◌<◌, ◌-◌, ◌^◌, ℕ, List, IfOk, replicate, slice_get, slice_set};
+ghost use Rattle.std.specs.Prelude.{◌≡◌, ◌<◌, ◌-◌, ◌^◌, ℕ, List, IfOk, replicate, slice_get};
 ghost use Rattle.jn_points.specs.Lookup.{elem_base};
 ghost use Rattle.jn_heap.specs.Values.{count, default_of, usual_limits};
 ghost use Rattle.jn_heap.specs.State.{State, got_plain, got_prim, int_of, object_of, prim_of, value_at};
@@ -8,6 +8,7 @@ ghost use Rattle.jn_machine.specs.Ends.{answer_of};
 ghost use Rattle.jn_machine.specs.Parts.{goes_to, may_hold_in, put_next, store_as};
 ghost use Rattle.jn_machine.specs.StateView.{state_of, acted_next};
 
+use crate::lists::put;
 use crate::prim::{End, Got, Primitive};
 use crate::state::{Acted, MachineState};
 use crate::straight::{LONGEST, copied};
@@ -18,21 +19,20 @@ use jn_points::lookup::elem_base;
 use jn_points::{BaseType, Program};
 use std::alloc::{AllocError, Global};
 
-/// A field of the object that a register refers to.
-pub(crate) fn read_field(
+/// A field of the object at a place.
+pub fn read_field(
     program: &Program,
-    state: &MachineState,
-    object: RegNo,
+    heap: &[Thing],
+    object: Option<usize>,
     field: FieldNo,
 ) -> Result<Got<Value>, AllocError>
     ensures { IfOk result (λ g. answer_of g
-        ≡ spec.read_field program.now state.now.heap.items
-        (object_of (value_at state.now.top.regs object.0)) field.0) }
+        ≡ spec.read_field program.now heap.now object field.0) }
 {
-    let Some(place) = state.top.object(object) else {
+    let Some(place) = object else {
         return Ok(Got::Lacks);
     };
-    let Some(thing) = state.heap.get(place) else {
+    let Some(thing) = heap.get(place) else {
         return Ok(Got::Lacks);
     };
     match thing.field(program, field) {
@@ -96,21 +96,12 @@ pub(crate) fn write_field(
 }
 
 /// The value of a static field.
-pub(crate) fn read_static(state: &MachineState, field: FieldNo) -> Got<Value>
-    ensures { answer_of result ≡ got_plain (got_prim (slice_get state.now.statics.items field.0)) }
+pub fn read_static(statics: &[Primitive], field: FieldNo) -> Got<Value>
+    ensures { answer_of result ≡ got_plain (got_prim (slice_get statics.now field.0)) }
 {
-    match state.statics.get(field.0 as usize) {
+    match statics.get(field.0 as usize) {
         None => Got::Lacks,
         Some(prim) => Got::Gives(Value::plain(prim.copy())),
-    }
-}
-
-/// Puts a number at a place of a list, where that is there.
-fn put(statics: &mut [Primitive], at: usize, prim: Primitive)
-    ensures { statics.new ≡ slice_set statics.old at prim }
-{
-    if at < statics.len() {
-        statics[at] = prim;
     }
 }
 
@@ -131,30 +122,28 @@ pub(crate) fn write_static(state: &mut MachineState, field: FieldNo, from: RegNo
     }
 }
 
-/// An element of the array that a register refers to.
-pub(crate) fn read_elem(
-    state: &MachineState,
-    array: RegNo,
-    at: RegNo,
+/// An element of the array at a place.
+pub fn read_elem(
+    heap: &[Thing],
+    array: Option<usize>,
+    at: Option<i32>,
 ) -> Result<Got<Value>, AllocError>
-    ensures { IfOk result (λ g. answer_of g
-        ≡ spec.read_elem state.now.heap.items (object_of (value_at state.now.top.regs array.0))
-        (int_of (prim_of (value_at state.now.top.regs at.0)))) }
+    ensures { IfOk result (λ g. answer_of g ≡ spec.read_elem heap.now array at) }
 {
-    let Some(place) = state.top.object(array) else {
+    let Some(place) = array else {
         return Ok(Got::Lacks);
     };
-    let Some(number) = state.top.int(at) else {
+    let Some(number) = at else {
         return Ok(Got::Lacks);
     };
-    match state.heap.get(place) {
+    match heap.get(place) {
         None => Ok(Got::Lacks),
         Some(thing) => thing.element(number),
     }
 }
 
 /// Whether the thing at a place is an array that may hold the value.
-fn may_store(program: &Program, heap: &[Thing], place: usize, value: &Value) -> bool
+pub fn may_store(program: &Program, heap: &[Thing], place: usize, value: &Value) -> bool
     ensures { result ≡ may_hold_in program.now heap.now (slice_get heap.now place) value.now }
 {
     match heap.get(place) {
@@ -229,22 +218,21 @@ pub(crate) fn write_elem(
     Ok(store_elem(program, state, place, index(number), value))
 }
 
-/// The length of the array that a register refers to.
-pub(crate) fn array_len(state: &MachineState, array: RegNo) -> Got<Value>
-    ensures { answer_of result
-        ≡ spec.array_len state.now.heap.items (object_of (value_at state.now.top.regs array.0)) }
+/// The length of the array at a place.
+pub fn array_len(heap: &[Thing], array: Option<usize>) -> Got<Value>
+    ensures { answer_of result ≡ spec.array_len heap.now array }
 {
-    match state.top.object(array) {
+    match array {
         None => Got::Lacks,
-        Some(place) => match state.heap.get(place) {
+        Some(place) => match heap.get(place) {
             None => Got::Lacks,
             Some(thing) => thing.length(),
         },
     }
 }
 
-/// The length of a new array.
-fn count(length: i32) -> Got<usize>
+/// The length of a new array (JLS 15.10.2).
+pub fn count(length: i32) -> Got<usize>
     ensures { answer_of result ≡ count usual_limits.longest length }
 {
     if length < 0 {
@@ -259,7 +247,7 @@ fn count(length: i32) -> Got<usize>
 }
 
 /// So many values that a type has first.
-fn repeated(alloc: Global, number: usize, base: BaseType) -> Result<Vec<Value>, AllocError>
+pub fn repeated(alloc: Global, number: usize, base: BaseType) -> Result<Vec<Value>, AllocError>
     ensures { IfOk result (λ v. v.items ≡ replicate number (default_of base)) }
 {
     let mut items = Vec::with_capacity(alloc, number)?;

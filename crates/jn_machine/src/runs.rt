@@ -30,7 +30,7 @@ fn first_of(base: BaseType, first: i32) -> Primitive
 }
 
 /// The number of each field as a static one, from its initializer.
-fn statics_of(alloc: Global, fields: &[Field]) -> Result<Vec<Primitive>, AllocError>
+pub fn statics_of(alloc: Global, fields: &[Field]) -> Result<Vec<Primitive>, AllocError>
     ensures { IfOk result (λ v. v.items ≡ statics_of fields.now) }
 {
     let mut statics = Vec::new(alloc);
@@ -59,8 +59,8 @@ fn texts(alloc: Global, words: &[Text]) -> Result<Vec<Value>, AllocError>
     Ok(values)
 }
 
-/// The heap of a start: the words as an array.
-fn first_heap(alloc: Global, words: &[Text]) -> Result<Vec<Thing>, AllocError>
+/// The heap of a start: the words as an array, alone.
+pub fn first_heap(alloc: Global, words: &[Text]) -> Result<Vec<Thing>, AllocError>
     ensures { IfOk result (λ heap. heap.items ≡ Elems spec.words_base (spec.texts words.now) ∷ []) }
 {
     let items = texts(alloc, words)?;

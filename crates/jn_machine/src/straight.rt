@@ -18,7 +18,7 @@ use jn_trees::Names;
 use std::alloc::{AllocError, Global};
 
 /// The greatest number of elements of an array, or of UTF-16 units of a text.
-pub(crate) const LONGEST: usize = 16_777_216;
+pub const LONGEST: usize = 16_777_216;
 
 /// The text of a name; an empty one where there is none.
 fn name_at(alloc: Global, names: &Names, name: NameNo) -> Result<Text, AllocError>
@@ -33,7 +33,7 @@ fn name_at(alloc: Global, names: &Names, name: NameNo) -> Result<Text, AllocErro
 
 /// The String of a name.
 #[inline(never)]
-fn text_of(alloc: Global, names: &Names, name: NameNo) -> Result<Value, AllocError>
+pub fn text_of(alloc: Global, names: &Names, name: NameNo) -> Result<Value, AllocError>
     ensures { IfOk result (λ v. v ≡ TextValue (slice_index_or names.now name.0 [])) }
 {
     let text = name_at(alloc, names, name)?;
@@ -84,23 +84,23 @@ fn plain(got: Got<Primitive>) -> Got<Value>
     }
 }
 
-pub(crate) fn unary(frame: &Frame, negate: bool, of: RegNo) -> Got<Value>
-    ensures { answer_of result ≡ spec.unary_of negate (prim_of (value_at frame.now.regs of.0)) }
+/// `-`, or `+`, of an int.
+pub fn unary(negate: bool, of: Option<Primitive>) -> Got<Value>
+    ensures { answer_of result ≡ spec.unary_of negate of }
 {
-    match frame.prim(of) {
+    match of {
         None => Got::Lacks,
         Some(prim) => plain(prim::unary(negate, &prim)),
     }
 }
 
-pub(crate) fn binary(frame: &Frame, operator: Operator, left: RegNo, right: RegNo) -> Got<Value>
-    ensures { answer_of result
-        ≡ spec.binary_of operator (prim_of (value_at frame.now.regs left.0))
-        (prim_of (value_at frame.now.regs right.0)) }
+/// An operator on two ints, or two booleans.
+pub fn binary(operator: Operator, left: Option<Primitive>, right: Option<Primitive>) -> Got<Value>
+    ensures { answer_of result ≡ spec.binary_of operator left right }
 {
-    match frame.prim(left) {
+    match left {
         None => Got::Lacks,
-        Some(a) => match frame.prim(right) {
+        Some(a) => match right {
             None => Got::Lacks,
             Some(b) => plain(prim::binary(operator, &a, &b)),
         },
@@ -108,7 +108,7 @@ pub(crate) fn binary(frame: &Frame, operator: Operator, left: RegNo, right: RegN
 }
 
 /// The text that joins and prints of a register's value.
-fn shown(alloc: Global, frame: &Frame, of: RegNo) -> Result<Option<Text>, AllocError>
+pub(crate) fn shown(alloc: Global, frame: &Frame, of: RegNo) -> Result<Option<Text>, AllocError>
     ensures { IfOk result (λ t. t ≡ text_in (value_at frame.now.regs of.0)) }
 {
     match frame.value(of) {
@@ -117,6 +117,7 @@ fn shown(alloc: Global, frame: &Frame, of: RegNo) -> Result<Option<Text>, AllocE
     }
 }
 
+/// The text as a String; one that is too long ends the run.
 fn within_length(alloc: Global, text: Text) -> Result<Got<Value>, AllocError>
     ensures { IfOk result (λ g. answer_of g
         ≡ spec.text_or_long text (ltb usual_limits.longest (units text))) }
@@ -129,20 +130,19 @@ fn within_length(alloc: Global, text: Text) -> Result<Got<Value>, AllocError>
     }
 }
 
-pub(crate) fn concat(
+/// Two texts as one String, where both are there.
+pub fn concat(
     alloc: Global,
-    frame: &Frame,
-    left: RegNo,
-    right: RegNo,
+    left: Option<Text>,
+    right: Option<Text>,
 ) -> Result<Got<Value>, AllocError>
     ensures { IfOk result (λ g. answer_of g
-        ≡ spec.concat_of usual_limits.longest (text_in (value_at frame.now.regs left.0))
-        (text_in (value_at frame.now.regs right.0))) }
+        ≡ spec.concat_of usual_limits.longest left right) }
 {
-    let Some(front) = shown(alloc, frame, left)? else {
+    let Some(front) = left else {
         return Ok(Got::Lacks);
     };
-    let Some(rest) = shown(alloc, frame, right)? else {
+    let Some(rest) = right else {
         return Ok(Got::Lacks);
     };
     let both = text::joined(alloc, front.as_str(), rest.as_str())?;

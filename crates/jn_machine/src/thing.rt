@@ -1,11 +1,12 @@
 //! Things on the heap.
-ghost use Rattle.std.specs.Prelude.{◌≡◌, Some, None, MatchOption, IfOk, slice_set};
+ghost use Rattle.std.specs.Prelude.{◌≡◌, Some, None, MatchOption, IfOk};
 ghost use Rattle.jn_heap.specs.Values as spec;
 ghost use Rattle.jn_heap.specs.Steps.{field_in, write_in, thing_within, item_or_index, item_at, elem_in, length_in};
 ghost use Rattle.jn_heap.specs.Calls.{class_in};
 ghost use Rattle.jn_machine.specs.Ends.{answer_of};
 ghost use Rattle.jn_machine.specs.Parts.{IsKept, put_answer, may_hold_in, store_as};
 
+use crate::lists::put;
 use crate::prim::{self, End, Got};
 use crate::value::Value;
 use jn_base::{ClassNo, FieldNo};
@@ -166,17 +167,8 @@ impl Thing {
     }
 }
 
-/// Puts a value at a place of a list, where that is there.
-fn put(items: &mut [Value], at: usize, value: Value)
-    ensures { items.new ≡ slice_set items.old at value }
-{
-    if at < items.len() {
-        items[at] = value;
-    }
-}
-
 /// The place of an element; None below zero.
-pub(crate) fn index(at: i32) -> Option<usize>
+pub fn index(at: i32) -> Option<usize>
     ensures { result ≡ spec.index at }
 {
     if at < 0 {

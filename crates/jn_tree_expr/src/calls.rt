@@ -3,7 +3,6 @@ ghost use Rattle.std.specs.Prelude.{◌≡◌, ◌++◌, ◌∷◌, [], ℕ, Lis
 ghost use Rattle.jn_heap.specs.Steps.{str_op};
 ghost use Rattle.jn_heap.specs.State.{value_at};
 ghost use Rattle.jn_heap.specs.Values as value;
-ghost use Rattle.jn_machine.specs.Parts.{prepended};
 ghost use Rattle.jn_meaning.specs.Expressions as spec;
 ghost use Rattle.jn_meaning.specs.Expressions.{Caller};
 ghost use Rattle.jn_meaning.specs.Operations as ops;
@@ -19,13 +18,13 @@ ghost use Rattle.jn_tree_expr.specs.Meaning.{called_behind, number_of};
 use crate::calling::{Calling, Enters};
 use jn_base::{MethodNo, RegNo, Span};
 use jn_index::indexed::IndexedProgram;
-use jn_machine::{Thing, Value};
+use jn_machine::{Thing, Value, selected};
 use jn_points::lookup::{class_of, is_void};
 use jn_points::{BaseType, StrOperation};
 use jn_scopes::members::{is_private, is_static, result_base};
 use jn_scopes::{Callee, Context};
 use jn_tree_world::arrays::list_array;
-use jn_tree_world::frames::{all_there, defaults, selected};
+use jn_tree_world::frames::{all_there, defaults};
 use jn_tree_world::heap::object;
 use jn_tree_world::operators::string;
 use jn_tree_world::values::{not_null, present};
@@ -70,17 +69,6 @@ fn enter<F: Enters>(
     call.enter(number, all, w)
 }
 
-/// The values after those given, where all are there.
-fn gather(front: Vec<Value>, arguments: &[Option<Value>]) -> Result<Option<Vec<Value>>, Halt>
-    ensures { Found
-        (λ r. items_in r ≡ prepended front.items (ops.all_there arguments.now)) result }
-{
-    match all_there(front, arguments) {
-        Err(_) => Err(Halt::OutOfMemory),
-        Ok(values) => Ok(values),
-    }
-}
-
 /// A list of one value, which is a reference to the thing at a place.
 fn this_at(alloc: Global, place: usize) -> Result<Vec<Value>, Halt>
     ensures { Found (λ r. r.items ≡ value.At place ∷ []) result }
@@ -105,7 +93,7 @@ pub fn call_static<F: Enters>(
         → Means (spec.called_static c.now.program.now names longest m span method.0 arguments.now
         (world_of w.old)) result (world_of w.new) }
 {
-    let values = gather(Vec::new(c.alloc), arguments)?;
+    let values = all_there(Vec::new(c.alloc), arguments)?;
     let value = enter(Some(method.0 as usize), values, call, w)?;
     given(c.program, method, value, span)
 }
@@ -128,8 +116,8 @@ fn enter_on<F: Enters>(
         return Err(Halt::Senseless);
     };
     let this = this_at(c.alloc, place)?;
-    let values = gather(this, arguments)?;
-    let own = selected(c.program.program(), w, place, method, direct);
+    let values = all_there(this, arguments)?;
+    let own = selected(c.program.program(), &w.heap, place, method, direct);
     enter(own, values, call, w)
 }
 
@@ -263,7 +251,7 @@ fn construct<F: Enters>(
 {
     let place = w.heap.len();
     let this = this_at(c.alloc, place)?;
-    let Some(values) = gather(this, arguments)? else {
+    let Some(values) = all_there(this, arguments)? else {
         return Err(Halt::Senseless);
     };
     let Ok(()) = make(c, ctor, w) else {
@@ -326,6 +314,6 @@ pub fn list_values(
     ensures { Means (ops.array_listed (world_of w.old) base (ops.all_there values.now)) result
         (world_of w.new) }
 {
-    let elements = gather(Vec::new(alloc), values)?;
+    let elements = all_there(Vec::new(alloc), values)?;
     list_array(w, base, elements)
 }

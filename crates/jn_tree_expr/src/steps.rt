@@ -1,7 +1,5 @@
 //! `++` and `--` after the place that they change (JLS 15.14 and 15.15).
 ghost use Rattle.std.specs.Prelude.{◌≡◌, Some, pos};
-ghost use Rattle.jn_heap.specs.State.{prim_of};
-ghost use Rattle.jn_heap.specs.Steps.{binary_of, literal_value};
 ghost use Rattle.jn_heap.specs.Values.{Number, Plain, usual_limits};
 ghost use Rattle.jn_lowering.specs.Forms.{step_operator};
 ghost use Rattle.jn_meaning.specs.Expressions as spec;

@@ -51,10 +51,7 @@ fn gather(
         (λ r. items_in r ≡ prepended (object ∷ []) (ops.all_there arguments.now)) result }
 {
     let front = one(alloc, object)?;
-    match all_there(front, arguments) {
-        Err(_) => Err(Halt::OutOfMemory),
-        Ok(values) => Ok(values),
-    }
+    all_there(front, arguments)
 }
 
 /// A constructor of the class or its superclass, on `this` (JLS 8.8.7.1).

@@ -1,5 +1,5 @@
 //! With what a body begins: the names of its parameters, and so many locals (JLS 6.3 and 8.4.1).
-ghost use Rattle.std.specs.Prelude.{◌≡◌, ◌+◌, [], None, length};
+ghost use Rattle.std.specs.Prelude.{◌≡◌, [], None, length};
 ghost use Rattle.jn_lowering.specs.Bodies as source;
 ghost use Rattle.jn_lowering.specs.Locals as local;
 ghost use Rattle.jn_lower_stmt.specs.Views.{declared_local};
@@ -17,7 +17,7 @@ use jn_points::BaseType;
 use jn_scopes::heads::params_of;
 use jn_scopes::members::is_static;
 use jn_scopes::types::has_final;
-use jn_tree_simple::standing::local_at;
+use jn_tree_simple::standing::{local_at, sum};
 use jn_tree_simple::{Scope, Standing};
 use jn_tree_world::Halt;
 use jn_trees::{Parameter, Stmt};
@@ -66,15 +66,6 @@ fn parameters(
         }
     }
     Ok(scope)
-}
-
-fn sum(a: usize, b: usize) -> Result<usize, Halt>
-    ensures { Found (λ n. n ≡ a + b) result }
-{
-    match a.checked_add(b) {
-        Some(sum) => Ok(sum),
-        None => Err(Halt::OutOfMemory),
-    }
 }
 
 /// `this` is the first local of a method that isn't static.

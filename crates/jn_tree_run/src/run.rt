@@ -1,5 +1,5 @@
 //! The run of a main by its trees.
-ghost use Rattle.std.specs.Prelude.{◌≡◌, ◌↔◌, ◌≢◌, ◌≤◌, ◌∷◌, [], map, true, IfOk, Option};
+ghost use Rattle.std.specs.Prelude.{◌≡◌, ◌≢◌, ◌≤◌, ◌∷◌, [], map, IfOk, Option};
 ghost use Rattle.jn_accept.specs.Mains.{IsMain};
 ghost use Rattle.jn_heap.specs.Values as value;
 ghost use Rattle.jn_meaning.specs.Bodies as spec;

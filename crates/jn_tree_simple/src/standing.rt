@@ -1,5 +1,5 @@
 //! Where a statement stands: the names in scope, and how many locals there are.
-ghost use Rattle.std.specs.Prelude.{◌≡◌, ◌&&◌, ◌+◌, ◌-◌, [], IfOk, OnOk, drop, length};
+ghost use Rattle.std.specs.Prelude.{◌≡◌, ◌+◌, [], length};
 ghost use Rattle.jn_lowering.specs.Locals.{declared, has_value, is_some, with_local as in_scope};
 ghost use Rattle.jn_lowering.specs.Scopes.{local_in};
 ghost use Rattle.jn_lower_stmt.specs.Views.{declared_local, rows_of};
@@ -85,7 +85,8 @@ impl Site<'_> {
     }
 }
 
-fn sum(a: usize, b: usize) -> Result<usize, Halt>
+/// Both numbers together, which fit where memory does.
+pub fn sum(a: usize, b: usize) -> Result<usize, Halt>
     ensures { Found (λ n. n ≡ a + b) result }
 {
     match a.checked_add(b) {

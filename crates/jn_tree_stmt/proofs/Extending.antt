@@ -1,6 +1,6 @@
 -- Names in scope: statements only add some, and those that were there come back.
-use Rattle.std.proofs.Common.{◌≡◌, ◌<◌, ◌≤◌, ℕ, get_or, ◌+◌, ◌-◌, List, [], ◌∷◌, ◌++◌, length, drop, refl, sym, ap, ◌∙◌, append_assoc, arith}
-use Rattle.std.specs.Prelude.{Bool, true, false, cond, ◌&&◌, Option, OnOk, Result as Answer, Ok, Err}
+use Rattle.std.proofs.Common.{◌≡◌, ◌<◌, ◌≤◌, ℕ, get_or, ◌+◌, ◌-◌, List, [], ◌∷◌, ◌++◌, length, drop, sym, ap, ◌∙◌, arith}
+use Rattle.std.specs.Prelude.{Bool, ◌&&◌, Option, OnOk, Result as Answer, Ok, Err}
 use Rattle.std.proofs.lemmas.List.{drop_more, length-append}
 use Rattle.std.proofs.Math.ListN.{drop_of_length-le}
 use Rattle.std.proofs.Math.Seq.{drop-append_seam}
@@ -11,25 +11,16 @@ use Rattle.jn_points.specs.declared.program.Program.{Program}
 use Rattle.jn_places.specs.Placed.{PlacedDeclarator, PlacedLocal, PlacedInit, PlacedExpressions, PlacedDeclaration, PlacedParameter, PlacedStatement, PlacedLocalStatement, PlacedBlock, NoPlacedStatements, MorePlacedStatements}
 use Rattle.jn_places.specs.PlacedView.{placed_statement, placed_statements}
 use Rattle.jn_trees.specs.declared.statement.Stmt.{Stmt}
-use Rattle.jn_lowering.specs.Scopes.{Local, Scope, local_in}
+use Rattle.jn_lowering.specs.Scopes.{Scope, local_in}
 use Rattle.jn_lowering.specs.Locals.{has_final, has_value, is_some}
+use Rattle.jn_lower_stmt.proofs.Stepping.{extends_on, extends_same, local_extends}
 use Rattle.jn_meaning.specs.Statements.{Standing, behind, behind_declaration, behind_declarator, behind_declarators, behind_init, declares}
 use Rattle.jn_tree_simple.specs.Standings.{back_to}
 use Rattle.jn_tree_stmt.specs.Running.{Grown, behind_variable}
 
-pub grown_same : (a : Scope) → Grown a a
-grown_same a = ([], refl)
-
-pub grown_on : (a b c : Scope) → Grown a b → Grown b c → Grown a c
-grown_on a b c f g = (g.0 ++ f.0, g.1 ∙ ap (λ x. g.0 ++ x) f.1 ∙ sym (append_assoc g.0 f.0 a))
-
 -- what grew is at another place that is the same
 pub grown_to : (a b c : Scope) → Grown a b → c ≡ b → Grown a c
 grown_to a b c f is = (f.0, is ∙ f.1)
-
-local_grows : (b : Bool) (s : Scope) (l : Local) → Grown s (cond b s (l ∷ s))
-local_grows true s l = ([], refl)
-local_grows false s l = (l ∷ [], refl)
 
 -- the names that were in scope are left
 left_names : (a b : Scope) → Grown a b → drop (length b - length a) b ≡ a
@@ -39,26 +30,26 @@ left_names a b f =
     ∙ drop-append_seam f.0 a
 
 declares_grows : (st : Standing) (name : ℕ) (base : BaseType) (bound : Option Qualifier) (fixed : Bool) (faults : List Row) → Grown st.scope (declares st name base bound fixed faults).scope
-declares_grows st name base bound fixed faults = local_grows (is_some (local_in st.scope name)) st.scope (record { name = name; reg = st.count; base = base; bound = bound; fixed = fixed; faults = faults })
+declares_grows st name base bound fixed faults = local_extends (is_some (local_in st.scope name)) st.scope (record { name = name; reg = st.count; base = base; bound = bound; fixed = fixed; faults = faults })
 
 declarators_grow : (base : BaseType) (bound : Option Qualifier) (final : Bool) (faults : List Row) (st : Standing) (ds : List PlacedDeclarator) → Grown st.scope (behind_declarators base bound final faults st ds).scope
-declarators_grow base bound final faults st [] = grown_same st.scope
+declarators_grow base bound final faults st [] = extends_same st.scope
 declarators_grow base bound final faults st (d ∷ ds) =
     let u : Standing = behind_declarator base bound final faults st d in
-    grown_on st.scope u.scope (behind_declarators base bound final faults u ds).scope (declares_grows st d.name.name.0 base bound (final && has_value d) faults) (declarators_grow base bound final faults u ds)
+    extends_on st.scope u.scope (behind_declarators base bound final faults u ds).scope (declares_grows st d.name.name.0 base bound (final && has_value d) faults) (declarators_grow base bound final faults u ds)
 
 module _ (P : Program) where
   pub declaration_grows : (st : Standing) (l : PlacedLocal) → Grown st.scope (behind_declaration P st l).scope
   declaration_grows st l = declarators_grow _ _ _ _ st (l.first ∷ l.more)
 
   pub init_grows : (st : Standing) (i : PlacedInit) → Grown st.scope (behind_init P st i).scope
-  init_grows st (PlacedExpressions es) = grown_same st.scope
+  init_grows st (PlacedExpressions es) = extends_same st.scope
   init_grows st (PlacedDeclaration l) = declaration_grows st l
 
   pub behind_grows : (st : Standing) (x : PlacedStatement) → Grown st.scope (behind P st x).scope
   behind_grows st (PlacedLocalStatement l span) = declaration_grows st l
-  behind_grows st (PlacedBlock body span) = grown_same st.scope
-  behind_grows st x = grown_same st.scope
+  behind_grows st (PlacedBlock body span) = extends_same st.scope
+  behind_grows st x = extends_same st.scope
 
   pub variable_grows : (st : Standing) (p : PlacedParameter) → Grown st.scope (behind_variable P st p).scope
   variable_grows st p = declares_grows (record { scope = st.scope; count = st.count + 2 }) p.name.name.0 _ _ (has_final p.marks) _
@@ -96,5 +87,5 @@ ok_kept (Ok x) a u v grown is = grown_to a v.scope u.scope grown (ap (λ (s : St
 ok_kept (Err e) a u v grown is = tt
 
 pub ok_on : {A E : Type 0} → (r : Answer A E) (a b c : Scope) → Grown a b → OnOk r (Grown b c) → OnOk r (Grown a c)
-ok_on (Ok x) a b c f g = grown_on a b c f g
+ok_on (Ok x) a b c f g = extends_on a b c f g
 ok_on (Err e) a b c f g = tt

@@ -1,3 +1,2 @@
-mod Pieces
 mod Nulls
 pub mod Binding

@@ -1,11 +1,9 @@
 //! Arrays (JLS 10, 15.10 and 15.26.1).
-ghost use Rattle.std.specs.Prelude.{◌≡◌, ◌++◌, ◌∷◌, [], Option, Some, IfOk, OnOk, length, replicate, slice_get};
+ghost use Rattle.std.specs.Prelude.{◌≡◌, slice_get};
 ghost use Rattle.jn_heap.specs.State.{int_of, object_of, prim_of};
 ghost use Rattle.jn_heap.specs.Steps as steps;
-ghost use Rattle.jn_heap.specs.Values as value;
-ghost use Rattle.jn_heap.specs.Values.{count, default_of, usual_limits};
+ghost use Rattle.jn_heap.specs.Values.{usual_limits};
 ghost use Rattle.jn_machine.specs.Ends.{answer_of};
-ghost use Rattle.jn_machine.specs.Parts.{may_hold_in};
 ghost use Rattle.jn_meaning.specs.Operations as ops;
 ghost use Rattle.jn_meaning.specs.Worlds as spec;
 ghost use Rattle.jn_tree_world.specs.Outcomes.{Means, Puts};
@@ -13,26 +11,15 @@ ghost use Rattle.jn_tree_world.specs.Worlds.{items_in, world_of};
 
 use crate::halt::Halt;
 use crate::heap::object;
-use crate::operators::LONGEST;
 use crate::values::{got, int};
 use crate::world::World;
 use jn_base::Span;
-use jn_machine::{End, Got, Thing, Value};
+use jn_machine::members::{array_len, count, may_store, read_elem, repeated};
+use jn_machine::thing::index;
+use jn_machine::{Got, Thing, Value};
 use jn_points::lookup::elem_base;
 use jn_points::{BaseType, Program};
-use std::alloc::{AllocError, Global};
-
-fn length_of(w: &World, object: Option<usize>) -> Got<Value>
-    ensures { answer_of result ≡ steps.array_len w.now.heap.items object }
-{
-    match object {
-        None => Got::Lacks,
-        Some(place) => match w.heap.get(place) {
-            None => Got::Lacks,
-            Some(thing) => thing.length(),
-        },
-    }
-}
+use std::alloc::Global;
 
 /// An array's length (JLS 10.7).
 pub fn read_length(w: &World, of: &Option<Value>, span: Span) -> Result<Option<Value>, Halt>
@@ -40,22 +27,7 @@ pub fn read_length(w: &World, of: &Option<Value>, span: Span) -> Result<Option<V
         (spec.got span (steps.array_len w.now.heap.items (object_of of.now)) (world_of w.now))
         result (world_of w.now) }
 {
-    got(length_of(w, object(of)), span)
-}
-
-fn element_of(w: &World, object: Option<usize>, at: Option<i32>) -> Result<Got<Value>, AllocError>
-    ensures { IfOk result (λ g. answer_of g ≡ steps.read_elem w.now.heap.items object at) }
-{
-    let Some(place) = object else {
-        return Ok(Got::Lacks);
-    };
-    let Some(number) = at else {
-        return Ok(Got::Lacks);
-    };
-    match w.heap.get(place) {
-        None => Ok(Got::Lacks),
-        Some(thing) => thing.element(number),
-    }
+    got(array_len(&w.heap, object(of)), span)
 }
 
 /// An array's element (JLS 15.10.4).
@@ -71,35 +43,14 @@ pub fn read_element(
         (world_of w.now))
         result (world_of w.now) }
 {
-    match element_of(w, object(of), int(at)) {
+    match read_elem(&w.heap, object(of), int(at)) {
         Err(_) => Err(Halt::OutOfMemory),
         Ok(given) => got(given, span),
     }
 }
 
-/// The place of an element; None below zero.
-fn index(at: i32) -> Option<usize>
-    ensures { result ≡ value.index at }
-{
-    if at < 0 {
-        None
-    } else {
-        Some(at.unsigned_abs() as usize)
-    }
-}
-
-/// Whether the thing at a place is an array that may hold the value.
-fn may_store(program: &Program, heap: &[Thing], place: usize, value: &Value) -> bool
-    ensures { result ≡ may_hold_in program.now heap.now (slice_get heap.now place) value.now }
-{
-    match heap.get(place) {
-        None => false,
-        Some(thing) => thing.may_hold(program, heap, value),
-    }
-}
-
 /// Makes a value an element of the thing at a place.
-#[tactic(auto, using(crate::proofs::Pieces::store_is))]
+#[tactic(auto, using(jn_machine::proofs::Pieces::store_is))]
 fn set_element(
     program: &Program,
     w: &mut World,
@@ -165,21 +116,7 @@ pub fn allocate(w: &mut World, thing: Thing) -> Result<Option<Value>, Halt>
     }
 }
 
-/// The length of a new array (JLS 15.10.2).
-fn count(length: i32) -> Got<usize>
-    ensures { answer_of result ≡ count usual_limits.longest length }
-{
-    if length < 0 {
-        return Got::Fails(End::NegativeSize);
-    }
-    let number = length.unsigned_abs() as usize;
-    if number > LONGEST {
-        Got::Fails(End::Long)
-    } else {
-        Got::Gives(number)
-    }
-}
-
+/// How many elements a new array has.
 fn count_of(length: &Option<Value>) -> Got<usize>
     ensures { answer_of result
         ≡ steps.count_of usual_limits.longest (int_of (prim_of length.now)) }
@@ -188,17 +125,6 @@ fn count_of(length: &Option<Value>) -> Got<usize>
         None => Got::Lacks,
         Some(number) => count(number),
     }
-}
-
-/// So many values that a type has first.
-fn repeated(alloc: Global, number: usize, base: BaseType) -> Result<Vec<Value>, AllocError>
-    ensures { IfOk result (λ v. v.items ≡ replicate number (default_of base)) }
-{
-    let mut items = Vec::with_capacity(alloc, number)?;
-    for _ in 0..number {
-        items.push(Value::default_of(base))?;
-    }
-    Ok(items)
 }
 
 /// A new array of so many elements (JLS 15.10.2).

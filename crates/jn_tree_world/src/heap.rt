@@ -1,8 +1,7 @@
 //! Fields and static fields (JLS 8.3, 15.11.1 and 15.26.1).
-ghost use Rattle.std.specs.Prelude.{◌≡◌, Option, Some, IfOk, slice_get, slice_set};
+ghost use Rattle.std.specs.Prelude.{◌≡◌, slice_get};
 ghost use Rattle.jn_heap.specs.State.{got_plain, got_prim, object_of, prim_of};
 ghost use Rattle.jn_heap.specs.Steps as steps;
-ghost use Rattle.jn_machine.specs.Ends.{answer_of};
 ghost use Rattle.jn_meaning.specs.Operations as ops;
 ghost use Rattle.jn_meaning.specs.Worlds as spec;
 ghost use Rattle.jn_tree_world.specs.Outcomes.{Means, Puts};
@@ -12,9 +11,9 @@ use crate::halt::Halt;
 use crate::values::{got, prim};
 use crate::world::World;
 use jn_base::{FieldNo, Span};
-use jn_machine::{Got, Primitive, Value};
+use jn_machine::lists::put;
+use jn_machine::{Got, Value, members};
 use jn_points::Program;
-use std::alloc::AllocError;
 
 /// The place on the heap that a value refers to.
 pub fn object(value: &Option<Value>) -> Option<usize>
@@ -26,15 +25,6 @@ pub fn object(value: &Option<Value>) -> Option<usize>
     }
 }
 
-fn static_of(w: &World, field: FieldNo) -> Got<Value>
-    ensures { answer_of result ≡ got_plain (got_prim (slice_get w.now.statics.items field.0)) }
-{
-    match w.statics.get(field.0 as usize) {
-        None => Got::Lacks,
-        Some(prim) => Got::Gives(Value::plain(prim.copy())),
-    }
-}
-
 /// The value of a static field.
 pub fn read_static(w: &World, field: FieldNo, span: Span) -> Result<Option<Value>, Halt>
     ensures { Means
@@ -42,31 +32,7 @@ pub fn read_static(w: &World, field: FieldNo, span: Span) -> Result<Option<Value
         (world_of w.now))
         result (world_of w.now) }
 {
-    got(static_of(w, field), span)
-}
-
-fn field_of(
-    program: &Program,
-    w: &World,
-    object: Option<usize>,
-    field: FieldNo,
-) -> Result<Got<Value>, AllocError>
-    ensures { IfOk result (λ g. answer_of g
-        ≡ steps.read_field program.now w.now.heap.items object field.0) }
-{
-    let Some(place) = object else {
-        return Ok(Got::Lacks);
-    };
-    let Some(thing) = w.heap.get(place) else {
-        return Ok(Got::Lacks);
-    };
-    match thing.field(program, field) {
-        None => Ok(Got::Lacks),
-        Some(value) => {
-            let copy = value.copy()?;
-            Ok(Got::Gives(copy))
-        }
-    }
+    got(members::read_static(&w.statics, field), span)
 }
 
 /// The value of an object's field.
@@ -82,18 +48,9 @@ pub fn read_field(
         (world_of w.now))
         result (world_of w.now) }
 {
-    match field_of(program, w, object(of), field) {
+    match members::read_field(program, &w.heap, object(of), field) {
         Err(_) => Err(Halt::OutOfMemory),
         Ok(given) => got(given, span),
-    }
-}
-
-/// Puts a number at a place of a list, where that is there.
-fn put(statics: &mut [Primitive], at: usize, prim: Primitive)
-    ensures { statics.new ≡ slice_set statics.old at prim }
-{
-    if at < statics.len() {
-        statics[at] = prim;
     }
 }
 

@@ -1,8 +1,8 @@
 //! Literals, operators, casts and the operations of class String.
-ghost use Rattle.std.specs.Prelude.{◌≡◌, [], ℕ, List, Option, Some, None, IfOk, ltb, slice_index_or};
+ghost use Rattle.std.specs.Prelude.{◌≡◌, ℕ, List, Some, IfOk};
 ghost use Rattle.jn_heap.specs.State.{got_plain, prim_of, text_in};
 ghost use Rattle.jn_heap.specs.Steps as steps;
-ghost use Rattle.jn_heap.specs.Values.{Text as TextValue, text_equals, units, usual_limits};
+ghost use Rattle.jn_heap.specs.Values.{text_equals, usual_limits};
 ghost use Rattle.jn_lowering.specs.Forms as form;
 ghost use Rattle.jn_machine.specs.Ends.{answer_of};
 ghost use Rattle.jn_meaning.specs.Expressions.{Caller, first_value};
@@ -16,16 +16,13 @@ ghost use Rattle.jn_tree_world.specs.Worlds.{world_of};
 use crate::halt::Halt;
 use crate::values::{got, prim, shown};
 use crate::world::World;
-use jn_base::{ClassNo, NameNo, Span, Text};
-use jn_machine::{End, Got, Primitive, Value, prim as numbers, text};
+use jn_base::{ClassNo, Span};
+use jn_machine::{Got, Primitive, Value, prim as numbers, straight, text};
 use jn_points::lookup::is_reference;
 use jn_points::{BaseType, Operator, Program, StrOperation};
 use jn_scopes::types::joins;
 use jn_trees::{Literal, Names, Step};
 use std::alloc::{AllocError, Global};
-
-/// The greatest number of UTF-16 units of a text, and of elements of an array.
-pub const LONGEST: usize = 16_777_216;
 
 /// The number of a literal; that of 2,147,483,648, which stands after a minus, wraps (JLS 3.10.1).
 fn number_of(number: u32) -> i32
@@ -38,31 +35,13 @@ fn number_of(number: u32) -> i32
     }
 }
 
-/// The text of a name; an empty one where there is none.
-fn name_at(alloc: Global, names: &Names, name: NameNo) -> Result<Text, AllocError>
-    ensures { IfOk result (λ t. t ≡ slice_index_or names.now name.0 []) }
-{
-    if (name.0 as usize) < names.len() {
-        Text::of_str(alloc, names.text(name))
-    } else {
-        Text::of_str(alloc, "")
-    }
-}
-
-fn text_of(alloc: Global, names: &Names, name: NameNo) -> Result<Value, AllocError>
-    ensures { IfOk result (λ v. v ≡ TextValue (slice_index_or names.now name.0 [])) }
-{
-    let text = name_at(alloc, names, name)?;
-    Value::text(alloc, text)
-}
-
 /// A literal's value (JLS 15.8.1).
 fn literal_value(alloc: Global, names: &Names, literal: Literal) -> Result<Value, AllocError>
     ensures { IfOk result (λ v. v ≡ steps.literal_value names.now (form.constant literal)) }
 {
     match literal {
         Literal::Number(number) => Ok(Value::plain(Primitive::int(number_of(number)))),
-        Literal::Str(name) => text_of(alloc, names, name),
+        Literal::Str(name) => straight::text_of(alloc, names, name),
         Literal::True => Ok(Value::plain(Primitive::bool(true))),
         Literal::False => Ok(Value::plain(Primitive::bool(false))),
         Literal::Null => Ok(Value::null()),
@@ -80,45 +59,19 @@ pub fn literal(alloc: Global, names: &Names, literal: Literal) -> Result<Option<
     }
 }
 
-/// An int or boolean as a value.
-fn plain(got: Got<Primitive>) -> Got<Value>
-    ensures { answer_of result ≡ got_plain (answer_of got) }
-{
-    match got {
-        Got::Gives(prim) => Got::Gives(Value::plain(prim)),
-        Got::Fails(end) => Got::Fails(end),
-        Got::Lacks => Got::Lacks,
-    }
-}
-
-fn unary_of(negate: bool, value: &Option<Value>) -> Got<Value>
-    ensures { answer_of result ≡ steps.unary_of negate (prim_of value.now) }
-{
-    match prim(value) {
-        None => Got::Lacks,
-        Some(prim) => plain(numbers::unary(negate, &prim)),
-    }
-}
-
 /// `-`, or `+`, of an int (JLS 15.15.3 and 15.15.4).
 pub fn unary(negate: bool, value: &Option<Value>, span: Span) -> Result<Option<Value>, Halt>
     ensures { (w : spec.World)
         → Means (spec.got span (steps.unary_of negate (prim_of value.now)) w) result w }
 {
-    got(unary_of(negate, value), span)
+    got(straight::unary(negate, prim(value)), span)
 }
 
 fn binary_of(operator: Operator, left: &Option<Value>, right: &Option<Value>) -> Got<Value>
     ensures { answer_of result
         ≡ steps.binary_of operator (prim_of left.now) (prim_of right.now) }
 {
-    match prim(left) {
-        None => Got::Lacks,
-        Some(a) => match prim(right) {
-            None => Got::Lacks,
-            Some(b) => plain(numbers::binary(operator, &a, &b)),
-        },
-    }
+    straight::binary(operator, prim(left), prim(right))
 }
 
 /// An operator on two ints, or two booleans (JLS 15.17 to 15.21).
@@ -135,18 +88,6 @@ pub fn binary(
     got(binary_of(operator, left, right), span)
 }
 
-fn within_length(alloc: Global, text: Text) -> Result<Got<Value>, AllocError>
-    ensures { IfOk result (λ g. answer_of g
-        ≡ steps.text_or_long text (ltb usual_limits.longest (units text))) }
-{
-    if text::units(text.as_str()) > LONGEST {
-        Ok(Got::Fails(End::Long))
-    } else {
-        let value = Value::text(alloc, text)?;
-        Ok(Got::Gives(value))
-    }
-}
-
 fn concat_of(
     alloc: Global,
     left: &Option<Value>,
@@ -155,14 +96,9 @@ fn concat_of(
     ensures { IfOk result (λ g. answer_of g
         ≡ steps.concat_of usual_limits.longest (text_in left.now) (text_in right.now)) }
 {
-    let Some(front) = shown(alloc, left)? else {
-        return Ok(Got::Lacks);
-    };
-    let Some(rest) = shown(alloc, right)? else {
-        return Ok(Got::Lacks);
-    };
-    let both = text::joined(alloc, front.as_str(), rest.as_str())?;
-    within_length(alloc, both)
+    let front = shown(alloc, left)?;
+    let rest = shown(alloc, right)?;
+    straight::concat(alloc, front, rest)
 }
 
 fn same_of(equal: bool, left: &Option<Value>, right: &Option<Value>) -> Got<Value>

@@ -1,6 +1,4 @@
 //! What can be read and assigned.
-ghost use Rattle.std.specs.Prelude.{◌≡◌};
-ghost use Rattle.jn_heap.specs.State.{prim_of};
 ghost use Rattle.jn_meaning.specs.Operations as ops;
 ghost use Rattle.jn_meaning.specs.Expressions as expressions;
 ghost use Rattle.jn_meaning.specs.Worlds as spec;

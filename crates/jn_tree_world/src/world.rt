@@ -1,5 +1,4 @@
 //! Worlds.
-ghost use Rattle.std.specs.Prelude.{◌≡◌, Some, slice_set};
 ghost use Rattle.jn_heap.specs.State.{value_at};
 ghost use Rattle.jn_meaning.specs.Operations as ops;
 ghost use Rattle.jn_meaning.specs.Worlds.{Has};
@@ -10,6 +9,7 @@ ghost use Rattle.jn_tree_world.specs.Worlds.{world_of};
 use crate::halt::Halt;
 use crate::values::copied;
 use jn_base::RegNo;
+use jn_machine::lists::put;
 use jn_machine::{Primitive, Thing, Value};
 
 /// What evaluation goes over: the heap, the numbers of static fields, the text printed, a value for each local of the method that
@@ -21,15 +21,6 @@ pub struct World {
     pub out: Vec<u8>,
     pub locals: Vec<Option<Value>>,
     pub fuel: u64,
-}
-
-/// Puts a value at a place of a list of locals, where that is there.
-fn put(locals: &mut [Option<Value>], at: usize, value: Value)
-    ensures { locals.new ≡ slice_set locals.old at (Some value) }
-{
-    if at < locals.len() {
-        locals[at] = Some(value);
-    }
 }
 
 impl World {
@@ -67,7 +58,7 @@ impl World {
         match given.copy() {
             Err(_) => Err(Halt::OutOfMemory),
             Ok(held) => {
-                put(&mut self.locals, local.0 as usize, held);
+                put(&mut self.locals, local.0 as usize, Some(held));
                 Ok(Some(given))
             }
         }

@@ -10,6 +10,7 @@ use Rattle.jn_places.specs.Placed.{PlacedStatements, PlacedDo, PlacedExpression,
 use Rattle.jn_places.specs.PlacedView.{placed_init, placed_local, placed_optional, placed_parameter, placed_statement, placed_statements, placed_type_use, placed_view, placed_views}
 use Rattle.jn_places.proofs.Rows.{statements_placed}
 use Rattle.jn_heap.specs.Values.{usual_limits}
+use Rattle.jn_lower_stmt.proofs.Stepping.{extends_on, extends_same}
 use Rattle.jn_meaning.specs.Expressions.{operand_span}
 use Rattle.jn_meaning.specs.Worlds.{Result, Has, Stops, FuelOut, then_do, spent}
 use Rattle.jn_meaning.specs.Statements.{Flow, Onward, Standing, behind, behind_init, done_while, endless, for_loop, repeated, then_onward}
@@ -21,7 +22,7 @@ use Rattle.jn_tree_simple.specs.Standings.{flow_of, standing_of}
 use Rattle.jn_tree_simple.proofs.Founding.{has_behind, stop_behind}
 use Rattle.jn_tree_stmt.specs.Leaving.{concluded, done_round, last_test, leaves, left_of, round, tested, updated}
 use Rattle.jn_tree_stmt.specs.Running.{all_run_at, behind_variable, runs_at}
-use Rattle.jn_tree_stmt.proofs.Extending.{back_behind, back_grown, behind_grows, grown_on, grown_same, grown_to, init_grows, no_statements_left, ok_kept, ok_on, ok_same, on_ok, statements_left, variable_grows}
+use Rattle.jn_tree_stmt.proofs.Extending.{back_behind, back_grown, behind_grows, grown_to, init_grows, no_statements_left, ok_kept, ok_on, ok_same, on_ok, statements_left, variable_grows}
 use Rattle.jn_tree_stmt.proofs.Rounds.{begins, done_last, done_once, endless_last, endless_once, ends, goes_on, gone, gone_stops, is_left, last, onward_on, onward_out, spend_stops, spent_on, stop_same, tests, turned_on, turned_out, turns_once}
 use Rattle.jn_tree_simple.specs.declared.flow.Flow as code
 use Rattle.jn_tree_stmt.proofs.statements.+executing.Goals as goal
@@ -33,13 +34,13 @@ pub execute_all-returns-in-Some-clause-means : goal.execute_all-returns-in-Some-
 execute_all-returns-in-Some-clause-means g t c = λ m k. c.loop-tree.invariant.1 m k ∙ ap (λ (xs : PlacedStatements). all_run_at c.args.b.now c.args.names.now m c.args.turns (standing_of c.loop-tree.st) xs (world_of c.loop-tree.w)) (statements_left c.args.trees.now c.loop-tree.tree-index c.tree-item.result c.loop-tree-test.true c.tree-item.is) ∙ has_behind _ _ (flow_of c.in_ok-flow.flow) (world_of c.execute.new.w) _ (c.in_ok-flow.ensures.means m k) (onward_out (flow_of c.in_ok-flow.flow) (flow_of c.in-Some.left) _ _ (sym c.stops_turn.ensures ∙ ap left_of c.in-Some.is))
 
 pub execute_all-returns-in-Some-clause-scope : goal.execute_all-returns-in-Some-clause-scope
-execute_all-returns-in-Some-clause-scope g t c = grown_on c.args.st.now.scope c.loop-tree.st.scope c.execute.new.st.scope c.loop-tree.invariant.0 (grown_to c.loop-tree.st.scope (behind c.args.b.now.program.now (standing_of c.loop-tree.st) (placed_statement c.tree-item.result)).scope c.execute.new.st.scope (behind_grows c.args.b.now.program.now (standing_of c.loop-tree.st) (placed_statement c.tree-item.result)) (ap (λ (s : Standing). s.scope) c.in_ok-flow.ensures.behind))
+execute_all-returns-in-Some-clause-scope g t c = extends_on c.args.st.now.scope c.loop-tree.st.scope c.execute.new.st.scope c.loop-tree.invariant.0 (grown_to c.loop-tree.st.scope (behind c.args.b.now.program.now (standing_of c.loop-tree.st) (placed_statement c.tree-item.result)).scope c.execute.new.st.scope (behind_grows c.args.b.now.program.now (standing_of c.loop-tree.st) (placed_statement c.tree-item.result)) (ap (λ (s : Standing). s.scope) c.in_ok-flow.ensures.behind))
 
 pub execute_all-loop-tree-init : goal.execute_all-loop-tree-init
-execute_all-loop-tree-init g t c = (grown_same c.args.st.now.scope, λ m k. refl)
+execute_all-loop-tree-init g t c = (extends_same c.args.st.now.scope, λ m k. refl)
 
 pub execute_all-loop-tree-preserved : goal.execute_all-loop-tree-preserved
-execute_all-loop-tree-preserved g t c = (grown_on c.args.st.now.scope c.loop-tree.st.scope c.execute.new.st.scope c.loop-tree.invariant.0 (grown_to c.loop-tree.st.scope (behind c.args.b.now.program.now (standing_of c.loop-tree.st) (placed_statement c.tree-item.result)).scope c.execute.new.st.scope (behind_grows c.args.b.now.program.now (standing_of c.loop-tree.st) (placed_statement c.tree-item.result)) (ap (λ (s : Standing). s.scope) c.in_ok-flow.ensures.behind)), λ m k. c.loop-tree.invariant.1 m k ∙ ap (λ (xs : PlacedStatements). all_run_at c.args.b.now c.args.names.now m c.args.turns (standing_of c.loop-tree.st) xs (world_of c.loop-tree.w)) (statements_left c.args.trees.now c.loop-tree.tree-index c.tree-item.result c.loop-tree-test.true c.tree-item.is) ∙ has_behind _ _ (flow_of c.in_ok-flow.flow) (world_of c.execute.new.w) _ (c.in_ok-flow.ensures.means m k) (onward_on (flow_of c.in_ok-flow.flow) _ _ (sym c.stops_turn.ensures ∙ ap left_of c.in_default.is)) ∙ ap (λ (s : Standing). all_run_at c.args.b.now c.args.names.now m c.args.turns s (placed_statements (drop (c.loop-tree.tree-index + 1) c.args.trees.now)) (world_of c.execute.new.w)) (sym c.in_ok-flow.ensures.behind))
+execute_all-loop-tree-preserved g t c = (extends_on c.args.st.now.scope c.loop-tree.st.scope c.execute.new.st.scope c.loop-tree.invariant.0 (grown_to c.loop-tree.st.scope (behind c.args.b.now.program.now (standing_of c.loop-tree.st) (placed_statement c.tree-item.result)).scope c.execute.new.st.scope (behind_grows c.args.b.now.program.now (standing_of c.loop-tree.st) (placed_statement c.tree-item.result)) (ap (λ (s : Standing). s.scope) c.in_ok-flow.ensures.behind)), λ m k. c.loop-tree.invariant.1 m k ∙ ap (λ (xs : PlacedStatements). all_run_at c.args.b.now c.args.names.now m c.args.turns (standing_of c.loop-tree.st) xs (world_of c.loop-tree.w)) (statements_left c.args.trees.now c.loop-tree.tree-index c.tree-item.result c.loop-tree-test.true c.tree-item.is) ∙ has_behind _ _ (flow_of c.in_ok-flow.flow) (world_of c.execute.new.w) _ (c.in_ok-flow.ensures.means m k) (onward_on (flow_of c.in_ok-flow.flow) _ _ (sym c.stops_turn.ensures ∙ ap left_of c.in_default.is)) ∙ ap (λ (s : Standing). all_run_at c.args.b.now c.args.names.now m c.args.turns s (placed_statements (drop (c.loop-tree.tree-index + 1) c.args.trees.now)) (world_of c.execute.new.w)) (sym c.in_ok-flow.ensures.behind))
 
 pub execute_all-returns-clause-means : goal.execute_all-returns-clause-means
 execute_all-returns-clause-means g t c = λ m k. c.loop-tree.invariant.1 m k ∙ ap (λ (xs : PlacedStatements). all_run_at c.args.b.now c.args.names.now m c.args.turns (standing_of c.loop-tree.st) xs (world_of c.loop-tree.w)) (no_statements_left c.args.trees.now c.loop-tree.tree-index c.loop-tree-test.false)
@@ -81,10 +82,10 @@ pub inside-returns-in-ForEach-clause-means : goal.inside-returns-in-ForEach-clau
 inside-returns-in-ForEach-clause-means g t c = λ m k. subst (λ (x : Stmt). MeansAs flow_of (runs_at c.args.b.now c.args.names.now m c.args.turns (standing_of c.args.st.now) (placed_statement x) (world_of c.args.w.now)) c.for_each.result (world_of c.for_each.new.w)) (sym c.in-ForEach.is) (subst (λ (t : Stmt). MeansAs flow_of (runs_at c.args.b.now c.args.names.now m c.args.turns (standing_of c.args.st.now) (PlacedForEach c.in-ForEach.variable.value.modifiers.items (placed_type_use c.in-ForEach.variable.value.type_use) c.in-ForEach.variable.value.name (placed_view c.in-ForEach.array.value) (placed_statement t) c.in-ForEach.span) (world_of c.args.w.now)) c.for_each.result (world_of c.for_each.new.w)) c.deref-in-ForEach.ensures (subst (λ (p : Parameter). MeansAs flow_of (runs_at c.args.b.now c.args.names.now m c.args.turns (standing_of c.args.st.now) (PlacedForEach p.modifiers.items (placed_type_use p.type_use) p.name (placed_view c.in-ForEach.array.value) (placed_statement c.deref-in-ForEach.result.now) c.in-ForEach.span) (world_of c.args.w.now)) c.for_each.result (world_of c.for_each.new.w)) c.deref-in-ForEach-2.ensures (subst (λ (a : Expr). MeansAs flow_of (runs_at c.args.b.now c.args.names.now m c.args.turns (standing_of c.args.st.now) (PlacedForEach c.deref-in-ForEach-2.result.now.modifiers.items (placed_type_use c.deref-in-ForEach-2.result.now.type_use) c.deref-in-ForEach-2.result.now.name (placed_view a) (placed_statement c.deref-in-ForEach.result.now) c.in-ForEach.span) (world_of c.args.w.now)) c.for_each.result (world_of c.for_each.new.w)) c.deref-in-ForEach-3.ensures (c.for_each.ensures.means m k c.in-ForEach.span))))
 
 pub inside-returns-in-While-clause-scope : goal.inside-returns-in-While-clause-scope
-inside-returns-in-While-clause-scope g t c = ok_kept c.repeat.result c.args.st.now.scope (standing_of c.repeat.new.st) (standing_of c.args.st.now) (grown_same c.args.st.now.scope) c.repeat.ensures.stays
+inside-returns-in-While-clause-scope g t c = ok_kept c.repeat.result c.args.st.now.scope (standing_of c.repeat.new.st) (standing_of c.args.st.now) (extends_same c.args.st.now.scope) c.repeat.ensures.stays
 
 pub inside-returns-in-Do-clause-scope : goal.inside-returns-in-Do-clause-scope
-inside-returns-in-Do-clause-scope g t c = ok_kept c.repeat_do.result c.args.st.now.scope (standing_of c.repeat_do.new.st) (standing_of c.args.st.now) (grown_same c.args.st.now.scope) c.repeat_do.ensures.stays
+inside-returns-in-Do-clause-scope g t c = ok_kept c.repeat_do.result c.args.st.now.scope (standing_of c.repeat_do.new.st) (standing_of c.args.st.now) (extends_same c.args.st.now.scope) c.repeat_do.ensures.stays
 
 pub if_then-returns-in_err-holds_in-clause-means : goal.if_then-returns-in_err-holds_in-clause-means
 if_then-returns-in_err-holds_in-clause-means g t c = λ m k span. stops flow_of _ c.in_err-holds_in.field-0.0 c.from_residual.result (world_of c.holds_in.new.w) c.from_residual.ensures.1 (stop_then c.in_err-holds_in.field-0.0 _ _ _ (c.in_err-holds_in.ensures.means c.args.turns m k))
