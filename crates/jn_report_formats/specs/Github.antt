@@ -1,11 +1,10 @@
 -- The report as workflow commands of GitHub Actions.
 use Rattle.std.specs.Prelude.{ℕ, ◌++◌, List, Option, codes, decimal}
-use Rattle.std.specs.List.{flat_map}
 use Rattle.jn_base.specs.Codes.{code_name}
 use Rattle.jn_diag.specs.declared.shown.RowText.{RowText}
 use Rattle.jn_diag.specs.declared.shown.Verdict.{Verdict}
 use Rattle.jn_report_formats.specs.Escapes.{escaped}
-use Rattle.jn_reporters.specs.Reports.{end_line}
+use Rattle.jn_reporters.specs.Reports.{rows_shown}
 use Rattle.jn_reporters.specs.Words.{told_noted}
 use Rattle.jn_reporters.specs.declared.shown.ShownNote.{ShownNote}
 use Rattle.jn_reporters.specs.declared.shown.ShownRow.{ShownRow}
@@ -21,4 +20,4 @@ abbrev pub github_row : ShownRow → List ℕ
 github_row row = github_line row.text row.notes
 
 abbrev pub github_shown : List ShownRow → Option Verdict → List ℕ
-github_shown rows verdict = flat_map github_row rows ++ end_line verdict
+github_shown = rows_shown github_row

@@ -1,93 +1,50 @@
 //! The report as workflow commands of GitHub.
 ghost use Rattle.std.specs.Prelude.{◌≡◌, IfOk};
-ghost use Rattle.jn_report_formats.specs.Github.{github_shown};
 ghost use Rattle.jn_report_formats.specs.Github as spec;
-ghost use Rattle.jn_reporters.specs.Sheet.{nothing_taken};
 
 use crate::escapes::{Escape, put};
 use itoa::{Buffer, Integer};
-use jn_base::OutOfMemory;
-use jn_diag::{RowText, Verdict};
+use jn_diag::RowText;
+use jn_reporters::by_row::{ByRow, RowFormat};
 use jn_reporters::reporter::Reporter;
-use jn_reporters::sheet::Sheet;
 use jn_reporters::shown::ShownNote;
 use jn_reporters::telling::told_noted;
 use jn_reporters::view::RowView;
 use std::alloc::{AllocError, Global};
-use std::marker::Model;
 
 /// Shows a workflow command of GitHub Actions for each row, which marks the row's line as an error and tells the row's first note, and then
 /// the verdict.
+pub type Github = ByRow<GithubRow>;
+
+/// What it shows of rows and a verdict is `github_shown`.
+pub fn github_shows(reporter: &Github)
+    ensures { (⟦<Github as Reporter>⟧.form reporter.now).shown ≡ spec.github_shown }
+{}
+
+/// A workflow command that marks the row's line as an error and tells its first note.
 #[derive(Drop)]
-pub struct Github {
-    sheet: Sheet,
-}
+pub struct GithubRow;
 
-impl Model for Github {
-    ghost use Rattle.std.specs.Prelude.{◌≡◌};
-    ghost use Rattle.std.specs.List.{flat_map};
+impl RowFormat for GithubRow {
+    ghost use Rattle.std.specs.Prelude.{codes, true};
     ghost use Rattle.jn_report_formats.specs.Github.{github_row};
-    ghost use Rattle.jn_reporters.specs.Sheet.{Taken, taken_of};
 
-    ghost Value = { Taken };
+    ghost title = { codes "github" };
 
-    ghost view = { λ a. taken_of a.sheet };
+    ghost notes = { true };
 
-    ghost invariant = { λ a. a.sheet.lines ≡ flat_map github_row a.sheet.rows };
-}
+    ghost written = { github_row };
 
-impl Github {
-    pub fn new(alloc: Global) -> Self
-        ensures { result ≡ nothing_taken }
-    {
-        Github {
-            sheet: Sheet::new(alloc),
-        }
-    }
-}
-
-impl Reporter for Github {
-    ghost use Rattle.std.specs.Prelude.{codes, false, true};
-    ghost use Rattle.jn_report_formats.specs.Github.{github_shown};
-
-    ghost form = { λ a. record {
-      title = codes "github";
-      document = false;
-      notes = true;
-      rows = a.rows;
-      shown = github_shown;
-      linked = λ address. github_shown;
-    } };
-
-    ghost given = { λ a. a.verdict };
-
-    fn name(&self) -> &str {
+    fn name() -> &'static str {
         "github"
     }
 
-    fn is_document(&self) -> bool {
-        false
-    }
-
-    fn shows_notes(&self) -> bool {
+    fn shows_notes() -> bool {
         true
     }
 
-    fn link(&mut self, _address: &str) -> Result<(), OutOfMemory> {
-        Ok(())
-    }
-
-    fn take(&mut self, row: &RowView<'_>) -> Result<(), OutOfMemory> {
-        let line = github_line(self.sheet.alloc(), row.row(), row.notes())?;
-        self.sheet.take(row, &line)
-    }
-
-    fn finish(&mut self, verdict: Verdict) -> Result<(), OutOfMemory> {
-        self.sheet.finish(verdict)
-    }
-
-    fn bytes(&self) -> &[u8] {
-        self.sheet.text()
+    fn text(alloc: Global, row: &RowView<'_>) -> Result<Vec<u8>, AllocError> {
+        github_line(alloc, row.row(), row.notes())
     }
 }
 

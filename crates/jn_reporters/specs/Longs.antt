@@ -9,7 +9,7 @@ use Rattle.jn_base.specs.Messages.{code_cure, code_message}
 use Rattle.jn_diag.specs.declared.shown.RowText.{RowText}
 use Rattle.jn_diag.specs.declared.shown.Verdict.{Verdict}
 use Rattle.jn_reporters.specs.declared.shown.Extract.{Extract}
-use Rattle.jn_reporters.specs.Reports.{end_line}
+use Rattle.jn_reporters.specs.Reports.{rows_shown}
 use Rattle.jn_reporters.specs.declared.shown.ShownNote.{ShownNote}
 use Rattle.jn_reporters.specs.declared.shown.ShownRow.{ShownRow}
 use Rattle.jn_reporters.specs.Words.{note_words}
@@ -105,4 +105,4 @@ abbrev pub long_row : ShownRow → List ℕ
 long_row row = head_line row.text ++ place_line row.text ++ source_lines row.text row.extract ++ cure_line row.text ++ note_lines row.text row.notes row.more ++ codes "\n\n"
 
 abbrev pub long_shown : List ShownRow → Option Verdict → List ℕ
-long_shown rows verdict = flat_map long_row rows ++ end_line verdict
+long_shown = rows_shown long_row

@@ -38,11 +38,15 @@ plain_row row = plain_line row.text
 abbrev pub tabbed_row : ShownRow → List ℕ
 tabbed_row row = tabbed_line row.text
 
+-- each row's text, and the verdict's line after them
+abbrev pub rows_shown : (ShownRow → List ℕ) → List ShownRow → Option Verdict → List ℕ
+rows_shown written rows verdict = flat_map written rows ++ end_line verdict
+
 abbrev pub plain_shown : List ShownRow → Option Verdict → List ℕ
-plain_shown rows verdict = flat_map plain_row rows ++ end_line verdict
+plain_shown = rows_shown plain_row
 
 abbrev pub tabbed_shown : List ShownRow → Option Verdict → List ℕ
-tabbed_shown rows verdict = flat_map tabbed_row rows ++ end_line verdict
+tabbed_shown = rows_shown tabbed_row
 
 -- ---- a line for each code
 

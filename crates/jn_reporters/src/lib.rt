@@ -2,10 +2,11 @@
 //!
 //! A [`Reporter`] takes each row once and in order, with what is shown of the line on which it begins and with its notes ([`RowView`]),
 //! and then the verdict; its bytes are a function of both, defined in `specs/` for each of [`Plain`], [`Long`], [`Tabbed`] and
-//! [`Summary`]. `docs/HOWTO.md` says how to add one.
+//! [`Summary`]. The first three are a reporter by rows ([`ByRow`]) in a format each ([`RowFormat`]). `docs/HOWTO.md` says how to add one.
 #![tactic(auto)]
 
 pub mod anchors;
+pub mod by_row;
 pub mod codes;
 pub mod excerpt;
 mod lines;
@@ -22,6 +23,7 @@ pub mod telling;
 pub mod view;
 
 pub use anchors::code_anchor;
+pub use by_row::{ByRow, RowFormat};
 pub use excerpt::{Excerpt, end_of, excerpt_for};
 pub use long::Long;
 pub use plain::Plain;

@@ -4,93 +4,51 @@ ghost use Rattle.std.specs.List.{flat_map};
 ghost use Rattle.std.specs.Option.{option_map};
 ghost use Rattle.jn_reporters.specs.Excerpts.{extract_of};
 ghost use Rattle.jn_reporters.specs.Longs as spec;
-ghost use Rattle.jn_reporters.specs.Sheet.{nothing_taken};
 
+use crate::by_row::{ByRow, RowFormat};
 use crate::excerpt::Excerpt;
 use crate::look::{Look, put_looked};
 use crate::reporter::Reporter;
-use crate::sheet::Sheet;
 use crate::shown::ShownNote;
 use crate::telling::noted;
 use crate::view::RowView;
 use itoa::{Buffer, Integer};
-use jn_base::OutOfMemory;
-use jn_diag::{RowText, Verdict};
+use jn_diag::RowText;
 use std::alloc::{AllocError, Global};
-use std::marker::Model;
 
 /// Shows for each row its message, its place, the line on which it begins with a mark below, its cure and its notes, and then the
 /// verdict.
+pub type Long = ByRow<LongRow>;
+
+/// What it shows of rows and a verdict is `long_shown`.
+pub fn long_shows(reporter: &Long)
+    ensures { (⟦<Long as Reporter>⟧.form reporter.now).shown ≡ spec.long_shown }
+{}
+
+/// The lines of a row, and an empty one.
 #[derive(Drop)]
-pub struct Long {
-    sheet: Sheet,
-}
+pub struct LongRow;
 
-impl Model for Long {
-    ghost use Rattle.std.specs.Prelude.{◌≡◌};
-    ghost use Rattle.std.specs.List.{flat_map};
+impl RowFormat for LongRow {
+    ghost use Rattle.std.specs.Prelude.{codes, true};
     ghost use Rattle.jn_reporters.specs.Longs.{long_row};
-    ghost use Rattle.jn_reporters.specs.Sheet.{Taken, taken_of};
 
-    ghost Value = { Taken };
+    ghost title = { codes "long" };
 
-    ghost view = { λ a. taken_of a.sheet };
+    ghost notes = { true };
 
-    ghost invariant = { λ a. a.sheet.lines ≡ flat_map long_row a.sheet.rows };
-}
+    ghost written = { long_row };
 
-impl Long {
-    pub fn new(alloc: Global) -> Self
-        ensures { result ≡ nothing_taken }
-    {
-        Long {
-            sheet: Sheet::new(alloc),
-        }
-    }
-}
-
-impl Reporter for Long {
-    ghost use Rattle.std.specs.Prelude.{codes, false, true};
-    ghost use Rattle.jn_reporters.specs.Longs.{long_shown};
-
-    ghost form = { λ a. record {
-      title = codes "long";
-      document = false;
-      notes = true;
-      rows = a.rows;
-      shown = long_shown;
-      linked = λ address. long_shown;
-    } };
-
-    ghost given = { λ a. a.verdict };
-
-    fn name(&self) -> &str {
+    fn name() -> &'static str {
         "long"
     }
 
-    fn is_document(&self) -> bool {
-        false
-    }
-
-    fn shows_notes(&self) -> bool {
+    fn shows_notes() -> bool {
         true
     }
 
-    fn link(&mut self, _address: &str) -> Result<(), OutOfMemory> {
-        Ok(())
-    }
-
-    fn take(&mut self, row: &RowView<'_>) -> Result<(), OutOfMemory> {
-        let text = long_row(self.sheet.alloc(), row)?;
-        self.sheet.take(row, &text)
-    }
-
-    fn finish(&mut self, verdict: Verdict) -> Result<(), OutOfMemory> {
-        self.sheet.finish(verdict)
-    }
-
-    fn bytes(&self) -> &[u8] {
-        self.sheet.text()
+    fn text(alloc: Global, row: &RowView<'_>) -> Result<Vec<u8>, AllocError> {
+        long_row(alloc, row)
     }
 }
 

@@ -1,7 +1,0 @@
-use Rattle.std.proofs.Common.{◌∙◌}
-use Rattle.jn_reporters.specs.Longs.{long_row}
-use Rattle.jn_reporters.proofs.Lined.{lined_after}
-use Rattle.jn_reporters.proofs.long.LongReporter.take.Goals as goal
-
-pub invariant_of-self : goal.invariant_of-self
-invariant_of-self c = lined_after long_row c.self.inside.sheet c.take.new.self c.args.row.now c.deref.result.now c.take.result c.take.ensures.ok c.take.ensures.err (c.deref.ensures.value ∙ c.in_ok-text.ensures) c.self.invariant
