@@ -11,7 +11,7 @@ use Rattle.jn_reasons_law.specs.declared.item.Item.{Item}
 use Rattle.jn_reasons_law.specs.declared.item.Item.TheVariants.{AtSlot, AtRegister}
 use Rattle.jn_reasons_law.specs.Choice.{bit_no}
 use Rattle.jn_reasons_law.specs.Sources.{IsOneOf}
-use Rattle.jn_chain.specs.Keys.{Key, key_of, key_eq, AreKept, kept_of, IsPut, IsEnd}
+use Rattle.jn_chain.specs.Keys.{Key, key_of, key_eq, AreKept, kept_of, IsPut}
 use Rattle.jn_chain.proofs.Members.{one_left, pushed, push_cases}
 
 same_bit : (a b : Bit) → bit_no a ≡ bit_no b → a ≡ b
@@ -123,7 +123,3 @@ module _ {A S : Type 0} where
       by : (y : Item) (t : Bool) → key_eq key (key_of (Some y)) ≡ t → (y ≡ item) ⊎ (kept_of A new.entries y ≡ kept_of A view y)
       by y true h = inl (item_same item y (one_source (Some item) (Some y) (alike (key_of (Some item)) (key_of (Some y)) (ap (λ (k : Key). key_eq k (key_of (Some y))) (sym is) ∙ h))))
       by y false h = inr (updates (key_of (Some y)) ∙ ap (λ (t : Bool). cond t (Some value) (get key_eq old (key_of (Some y)))) h ∙ ap (lookup (key_eq (key_of (Some y)))) e)
-
--- the same, seen from an item that ends a walk
-pub end_some : {A : Type 0} (entries : List (Key × A)) (x : Item) (value : A) → kept_of A entries x ≡ Some value → IsEnd A (kept_of A entries) (Some x)
-end_some {A} entries x value e = (value, e)

@@ -1,7 +1,7 @@
 -- The steps of the loops over causes, sources and levels.
 use Rattle.std.proofs.Common.{◌≡◌, ℕ, suc, ◌+◌, ◌<◌, ◌≤◌, ◌⊎◌, inl, inr, ⊎_elim, List, [], ◌∷◌, ◌++◌, length, take, Option, Some, None, refl, sym, ap, ◌∙◌, subst, arith}
 use Rattle.std.specs.Prelude.{slice_index_or}
-use Rattle.std.proofs.lemmas.List.{get_or_push}
+use Rattle.std.proofs.lemmas.List.{get_or_push, take_all}
 use Rattle.jn_reasons_law.specs.declared.item.Item.{Item}
 use Rattle.jn_reasons_law.specs.Sources.{IsOneOf}
 use Rattle.jn_reasons_law.specs.Chains.{HasChain}
@@ -9,7 +9,7 @@ use Rattle.jn_reasons.specs.declared.causes.Cause.{Cause}
 use Rattle.jn_reasons.specs.Listed.{IsListed, cause_at}
 use Rattle.jn_chain.specs.declared.chains.Rest.{Rest}
 use Rattle.jn_chain.specs.Search.{Ground, IsSeen, level_at, left_of, IsAtMost, IsLower, AreSeen, IsAdded, IsBound, AreMet, IsSource, IsNext, AreCauses, IsReached, AreRests, AreLevels, AreAllLevels}
-use Rattle.jn_chain.proofs.Members.{one_left, pushed, push_cases, front_cases, front_kept, front_new, causes_cases, causes_kept, causes_new, seen_left, seen_right, nothing, whole}
+use Rattle.jn_chain.proofs.Members.{one_left, pushed, push_cases, front_cases, front_kept, front_new, causes_cases, causes_kept, causes_new, seen_left, seen_right, nothing}
 use Rattle.jn_chain.proofs.Leveling.{levels_start, levels_more, far}
 use Rattle.jn_chain.proofs.Walks.{chain_reaches}
 
@@ -115,7 +115,7 @@ module _ (K : Item → Option Rest) (ls : List (List Source)) (d : ℕ) where
       (λ z e. (this.place, subst (λ (y : Source). IsListed (cause_at this.place y) (take (i + 1) causes)) (sym e) (causes_new causes i c lt)))
 
   pub met_causes : (causes : List Cause) (i : ℕ) (old new : List Source) (best now : Option ℕ) → length causes ≤ i → AreMet K ls d (IsSource (take i causes)) old new best now → AreMet K ls d (IsSource causes) old new best now
-  met_causes causes i old new best now le A = subst (λ (l : List Cause). AreMet K ls d (IsSource l) old new best now) (whole Cause causes i le) A
+  met_causes causes i old new best now le A = subst (λ (l : List Cause). AreMet K ls d (IsSource l) old new best now) (take_all i causes le) A
 
   module _ (G : Ground) where
     pub met_no_source : (last next : List Source) (best : Option ℕ) → next ≡ [] → AreMet K ls d (IsReached G (take 0 last)) [] next best best
@@ -137,7 +137,7 @@ module _ (K : Item → Option Rest) (ls : List (List Source)) (d : ℕ) where
         (λ z h. record { from = slice_index_or last i s; place = h.0; among = front_new last i s lt; next = C.none_else h.0 z (subst (IsListed (cause_at h.0 z)) e h.1) })
 
     pub met_all : (last : List Source) (i : ℕ) (old new : List Source) (best now : Option ℕ) → length last ≤ i → AreMet K ls d (IsReached G (take i last)) old new best now → AreMet K ls d (IsReached G last) old new best now
-    met_all last i old new best now le A = subst (λ (l : List Source). AreMet K ls d (IsReached G l) old new best now) (whole Source last i le) A
+    met_all last i old new best now le A = subst (λ (l : List Source). AreMet K ls d (IsReached G l) old new best now) (take_all i last le) A
 
 -- ---- levels
 

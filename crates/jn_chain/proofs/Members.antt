@@ -1,5 +1,5 @@
 -- Members of lists that grow by one item, and of the front of a list that a loop has passed.
-use Rattle.std.proofs.Common.{◌≡◌, ℕ, zero, suc, ◌+◌, ◌<◌, ◌≤◌, ◌⊎◌, inl, inr, ⊎_elim, List, [], ◌∷◌, ◌++◌, length, take, Option, refl, sym, ap, subst, arith}
+use Rattle.std.proofs.Common.{◌≡◌, ℕ, zero, suc, ◌+◌, ◌<◌, ◌⊎◌, inl, inr, ⊎_elim, List, [], ◌∷◌, ◌++◌, length, take, Option, refl, sym, subst, arith}
 use Rattle.std.specs.Prelude.{slice_index_or}
 use Rattle.std.proofs.lemmas.List.{take_more}
 use Rattle.jn_reasons_law.specs.declared.item.Item.{Item}
@@ -98,13 +98,6 @@ pub seen_where : (z : Source) (xs : List (List Source)) → IsSeen z xs → IsAt
 seen_where z [] h = absurd h
 seen_where z (x ∷ xs) (inl h) = record { level = 0; inside = omega arith; among = h }
 seen_where z (x ∷ xs) (inr h) = let w = seen_where z xs h in record { level = suc w.level; inside = omega (arith, w.inside); among = w.among }
-
--- the front that a loop has passed is the whole list
-pub whole : (A : Type 0) (xs : List A) (i : ℕ) → length xs ≤ i → take i xs ≡ xs
-whole A [] zero le = refl
-whole A [] (suc i) le = refl
-whole A (x ∷ xs) zero le = absurd (omega (arith, le))
-whole A (x ∷ xs) (suc i) le = ap (λ (l : List A). x ∷ l) (whole A xs i (omega (arith, le)))
 
 -- at its start a loop has passed nothing
 pub nothing : (A : Type 0) (xs : List A) → take 0 xs ≡ []

@@ -2,6 +2,7 @@
 use Rattle.std.proofs.Common.{◌≡◌, ℕ, zero, suc, ◌+◌, ◌-◌, ◌<◌, ◌≤◌, ◌⊎◌, inl, inr, ⊎_elim, List, [], ◌∷◌, length, take, Option, Some, None, refl, sym, ap, ◌∙◌, subst, arith}
 use Rattle.std.specs.Prelude.{slice_index_or}
 use Rattle.std.proofs.lemmas.Bool.{cases_lt}
+use Rattle.std.proofs.lemmas.List.{take_all}
 use Rattle.jn_reasons_law.specs.declared.item.Item.{Item}
 use Rattle.jn_reasons_law.specs.declared.item.Place.{Place}
 use Rattle.jn_reasons_law.specs.Sources.{IsOneOf}
@@ -11,7 +12,7 @@ use Rattle.jn_chain.specs.declared.chains.Rest.{Rest}
 use Rattle.jn_chain.specs.Keys.{IsPut}
 use Rattle.jn_chain.specs.Search.{Ground, level_at, IsLeastAmong, IsUnwanted, IsNext, AreCauses, Reaches, left_of, IsRest, AreRests, IsKept, AreAllLevels, AreDue, AreSettled, IsFound}
 use Rattle.jn_chain.proofs.Leveling.{far}
-use Rattle.jn_chain.proofs.Members.{at_place, front_cases, nothing, whole}
+use Rattle.jn_chain.proofs.Members.{at_place, front_cases, nothing}
 use Rattle.jn_chain.proofs.Resting.{left_least, left_reaches, put_keeps, put_rests, put_left}
 
 abbrev Source : Type 0
@@ -112,7 +113,7 @@ module _ (G : Ground) where
     }
 
     pub settled_all : (i : ℕ) (K : Item → Option Rest) → length level ≤ i → IsPassed i K → AreSettled G level left first K
-    settled_all i K le A = subst (λ (l : List Source). AreSettled G l left first K) (whole Source level i le) A
+    settled_all i K le A = subst (λ (l : List Source). AreSettled G l left first K) (take_all i level le) A
 
   -- ---- levels
 

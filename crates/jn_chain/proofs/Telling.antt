@@ -51,11 +51,6 @@ take_fewer zero f = refl
 take_fewer (suc k) [] = refl
 take_fewer (suc k) (x ∷ f) = ap (λ (l : List Step). x ∷ l) (take_fewer k f)
 
-take_twice : (k : ℕ) (f : List Step) → take k (take k f) ≡ take k f
-take_twice zero f = refl
-take_twice (suc k) [] = refl
-take_twice (suc k) (x ∷ f) = ap (λ (l : List Step). x ∷ l) (take_twice k f)
-
 take_with : (k : ℕ) (x : Step) (f : List Step) → take k (x ∷ take k f) ≡ take k (x ∷ f)
 take_with zero x f = refl
 take_with (suc k) x f = ap (λ (l : List Step). x ∷ l) (take_fewer k f)
@@ -106,27 +101,6 @@ module _ (most : ℕ) where
       ∙ ap (λ (l : List Step). l ++ y ∷ []) (take_with k x f)
       ∙ sym (all_shown (x ∷ f) y)
       ∙ ap (λ (l : List Step). shown most (x ∷ l)) (sym (ends v t))
-
-  -- the same two parts of those that are shown
-  pub front_same : (t : List Step) → take (most - 1) (take (length (shown most t) - 1) (shown most t)) ≡ take (most - 1) (take (length t - 1) t)
-  front_same [] = ap (λ (l : List Step). take (most - 1) (take (length l - 1) l)) none_shown
-  front_same (v ∷ t) =
-      let f = front_of (v ∷ t) in
-      let y = end_of v t in
-      let k = most - 1 in
-      ap (λ (l : List Step). take k (take (length l - 1) l)) (shown_whole (v ∷ t) f y (ends v t))
-      ∙ front_shown (take k f) y ∙ take_twice k f ∙ sym (front_shown f y)
-      ∙ ap (λ (l : List Step). take k (take (length l - 1) l)) (sym (ends v t))
-
-  pub last_same : (t : List Step) → drop (length (shown most t) - 1) (shown most t) ≡ drop (length t - 1) t
-  last_same [] = ap (λ (l : List Step). drop (length l - 1) l) none_shown
-  last_same (v ∷ t) =
-      let f = front_of (v ∷ t) in
-      let y = end_of v t in
-      let k = most - 1 in
-      ap (λ (l : List Step). drop (length l - 1) l) (shown_whole (v ∷ t) f y (ends v t))
-      ∙ last_shown (take k f) y ∙ sym (last_shown f y)
-      ∙ ap (λ (l : List Step). drop (length l - 1) l) (sym (ends v t))
 
   -- ---- no step, and one more
 

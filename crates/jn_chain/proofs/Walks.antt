@@ -1,5 +1,5 @@
 -- Walks by the least steps that are known, and what they are.
-use Rattle.std.proofs.Common.{◌≡◌, ℕ, zero, suc, ◌+◌, ◌-◌, ◌<◌, ◌≤◌, ⊎_elim, true, false, ◌&&◌, List, [], ◌∷◌, ◌++◌, length, take, Option, Some, None, refl, sym, ap, ◌∙◌, subst, arith, append_assoc, append-nil}
+use Rattle.std.proofs.Common.{◌≡◌, ℕ, suc, ◌+◌, ◌-◌, ◌<◌, ◌≤◌, ⊎_elim, true, false, ◌&&◌, List, [], ◌∷◌, ◌++◌, length, take, Option, Some, None, refl, sym, ap, ◌∙◌, subst, arith, append_assoc, append-nil}
 use Rattle.std.specs.Prelude.{eqb, ltb, slice_index_or}
 use Rattle.std.proofs.lemmas.Bool.{and_from, and_parts, or_cases, or_left, or_right}
 use Rattle.std.proofs.lemmas.List.{length_push, take_more}
@@ -30,23 +30,7 @@ pub record IsWalked (G : Ground) (K : Item → Option Rest) (x : Item) (count le
 regroup : (a : List Step) (x : Step) (c : List Step) → (a ++ x ∷ []) ++ c ≡ a ++ (x ∷ c)
 regroup a x c = simp append_assoc
 
-no_left : (n : ℕ) → Some 0 ≡ Some (n + 1) → ⊥
-no_left n e = let h = some_nat 0 (n + 1) e in omega (arith, h)
-  where
-    some_nat : (a b : ℕ) → Some a ≡ Some b → a ≡ b
-    some_nat a b e = cc
-
 module _ (G : Ground) (K : Item → Option Rest) (R : AreRests G K) where
-  -- a step is left, so there is an item
-  pub not_text : (source : Source) (left : ℕ) → left_of K source ≡ Some (left + 1) → source ≡ None → ⊥
-  not_text source left k e = no_left left (subst (λ (z : Source). left_of K z ≡ Some (left + 1)) e k)
-
-  pub not_unknown : (source : Source) (item : Item) (left : ℕ) → left_of K source ≡ Some (left + 1) → source ≡ Some item → None ≡ K item → ⊥
-  not_unknown source item left k e none = let r = some_rest K item (left + 1) (subst (λ (z : Source). left_of K z ≡ Some (left + 1)) e k) in clash r.0 (none ∙ r.1)
-    where
-      clash : (r : Rest) → None ≡ Some r → ⊥
-      clash r e = cc
-
   same_rest : (r q : Rest) → Some r ≡ Some q → r ≡ q
   same_rest r q e = cc
 

@@ -1,5 +1,5 @@
 //! From the last level back: of each item on a shortest chain how many steps are left, and the least cause that leaves one less.
-ghost use Rattle.std.specs.Prelude.{◌≡◌, ◌-◌, ◌<◌, ◌∷◌, [], OnOk, Some, length};
+ghost use Rattle.std.specs.Prelude.{◌-◌, ◌<◌, ◌∷◌, [], OnOk, Some};
 ghost use Rattle.jn_reasons_law.specs.declared.item.Item.{Item};
 ghost use Rattle.jn_chain.specs.Keys.{rest_of};
 ghost use Rattle.jn_chain.specs.Search.{AreAllLevels, AreCauses, AreDue, AreRests, AreSettled, IsFound};

@@ -1,6 +1,5 @@
 //! Sources of which it is known at once whether one is among them.
 ghost use Rattle.std.specs.Prelude.{◌≡◌, ◌++◌, ◌∷◌, [], OnOk, true, false};
-ghost use Rattle.jn_reasons_law.specs.Choice as choice;
 ghost use Rattle.jn_reasons_law.specs.Sources.{IsOneOf};
 ghost use Rattle.jn_chain.specs.Keys.{key_of};
 

@@ -1,5 +1,6 @@
 -- Whose slot it is: the first field, and then the first method, that names it.
-use Rattle.std.specs.Prelude.{ℕ, zero, suc, ◌<◌, ◌≡◌, cond, eqb, ltb, List, length, Option, Some, None, slice_index_or}
+use Rattle.std.specs.Prelude.{ℕ, zero, suc, ◌<◌, ◌≡◌, cond, eqb, ltb, List, [], ◌∷◌, length, Option, Some, None, slice_index_or}
+use Rattle.std.specs.Option.{option_or}
 use Rattle.jn_base.specs.declared.number.SlotNo.{SlotNo}
 use Rattle.jn_points.specs.declared.program.Field.{Field}
 use Rattle.jn_points.specs.declared.program.Method.{Method}
@@ -8,15 +9,15 @@ use Rattle.jn_points.specs.Lookup.{field_info, method_at}
 use Rattle.jn_note_words.specs.declared.owners.Owner.{Owner}
 use Rattle.jn_note_words.specs.declared.owners.Owner.TheVariants.{OfField, OfParameter, OfReceiver, OfResult}
 
--- the first where there is one, else the second
-abbrev pub or_owner : Option Owner → Option Owner → Option Owner
-or_owner None y = y
-or_owner (Some x) y = Some x
+-- what the first of the numbers below n gives that gives one
+abbrev pub first_below : {A : Type 0} → (ℕ → Option A) → ℕ → Option A
+first_below f zero = None
+first_below f (suc n) = option_or (first_below f n) (f n)
 
--- the first of the numbers below n that gives one
-abbrev pub first_owner : (ℕ → Option Owner) → ℕ → Option Owner
-first_owner f zero = None
-first_owner f (suc n) = or_owner (first_owner f n) (f n)
+-- what the first item gives that gives something
+abbrev pub first_of : {A B : Type 0} → (B → Option A) → List B → Option A
+first_of f [] = None
+first_of f (x ∷ xs) = option_or (f x) (first_of f xs)
 
 module _ (k : ℕ) where
   -- an owner, where the slot that it names is k
@@ -35,30 +36,30 @@ module _ (k : ℕ) where
 
   -- the first parameter of a method whose slot is k
   abbrev pub by_parameters : ℕ → List (Option SlotNo) → Option Owner
-  by_parameters m slots = first_owner (by_parameter m slots) (length slots)
+  by_parameters m slots = first_below (by_parameter m slots) (length slots)
 
   -- the part of a method whose slot is k: a parameter, else its receiver, else its result
   abbrev pub by_method : ℕ → Option Method → Option Owner
   by_method m None = None
-  by_method m (Some x) = or_owner (by_parameters m x.param_slots) (or_owner (if_slot x.receiver (OfReceiver m)) (if_slot x.result_slot (OfResult m)))
+  by_method m (Some x) = option_or (by_parameters m x.param_slots) (option_or (if_slot x.receiver (OfReceiver m)) (if_slot x.result_slot (OfResult m)))
 
 module _ (P : Program) where
   -- the first field whose slot it is
   abbrev pub by_fields : ℕ → Option Owner
-  by_fields k = first_owner (λ f. by_field k f (field_info P f)) (length P.fields)
+  by_fields k = first_below (λ f. by_field k f (field_info P f)) (length P.fields)
 
   -- of the first method that has the slot, the part whose it is
   abbrev pub by_methods : ℕ → Option Owner
-  by_methods k = first_owner (λ m. by_method k m (method_at P m)) (length P.methods)
+  by_methods k = first_below (λ m. by_method k m (method_at P m)) (length P.methods)
 
   -- whose slot k is; what is no slot is nobody's
   abbrev pub owner_of : ℕ → Option Owner
-  owner_of k = cond (ltb k (length P.slots)) (or_owner (by_fields k) (by_methods k)) None
+  owner_of k = cond (ltb k (length P.slots)) (option_or (by_fields k) (by_methods k)) None
 
 -- each of the owners that were missing is what the test gives
 pub record Filled (old new : List (Option Owner)) (test : ℕ → Option Owner) : Type 0 where
   pub long : length new ≡ length old
-  pub each : (k : ℕ) → k < length old → slice_index_or new k None ≡ or_owner (slice_index_or old k None) (test k)
+  pub each : (k : ℕ) → k < length old → slice_index_or new k None ≡ option_or (slice_index_or old k None) (test k)
 
 -- the owner of each slot
 pub record AreOwners (P : Program) (owners : List (Option Owner)) : Type 0 where

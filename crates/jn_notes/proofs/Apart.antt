@@ -1,6 +1,7 @@
 -- Where no value of a point stands at a place, no rule finds one there.
 use Rattle.std.proofs.Common.{◌≡◌, ℕ, ◌+◌, Bool, true, false, cond, ◌||◌, List, [], ◌∷◌, ◌++◌, Option, Some, None, refl, ap, ◌∙◌}
 use Rattle.std.specs.Prelude.{not, ◌&&◌}
+use Rattle.std.specs.Option.{option_or}
 use Rattle.jn_base.specs.declared.place.Span.{Span}
 use Rattle.jn_quals.specs.Qualifier.{Qualifier}
 use Rattle.jn_points.specs.declared.point.Operand.{Operand}
@@ -21,12 +22,14 @@ use Rattle.jn_note_words.specs.declared.owners.Owner.TheVariants.{OfParameter}
 use Rattle.jn_notes.specs.declared.reads.Rule.{Rule}
 use Rattle.jn_notes.specs.declared.reads.Rule.TheVariants.{Dereference, Write, Argument, Receiver, Result as ResultRule, Local as LocalRule, Element}
 use Rattle.jn_notes.specs.declared.reads.Sought.{Sought}
-use Rattle.jn_notes.specs.Asked.{same_span, or_item, by_ask, by_asks}
+use Rattle.jn_notes.specs.Asked.{same_span, by_ask, by_asks}
 use Rattle.jn_notes.specs.Asks.{Ask, ask, ask_if, ask_each, ask_args, dereference_asks, equals_asks, bound_asks, local_asks, element_asks, write_asks, argument_asks, receiver_asks, result_asks, asks}
-use Rattle.jn_note_words.specs.Owned.{or_owner}
 use Rattle.jn_points.specs.Operands.{operand_if}
 use Rattle.jn_sites.specs.Marks.{asked, stands_there}
 use Rattle.jn_notes.specs.Spoken.{pass, pass_if, pass_args, is_refused, write_passes, argument_passes, receiver_passes, result_passes, passes, by_pass, by_passes}
+
+none_of : {A : Type 0} (x y : Option A) → x ≡ None → y ≡ None → option_or x y ≡ None
+none_of {A} x y h g = ap (λ (o : Option A). option_or o y) h ∙ g
 
 -- neither of two
 pub either_not : (x y : Bool) → (x || y) ≡ false → (x ≡ false) × (y ≡ false)
@@ -48,9 +51,6 @@ module _ (z : Span) where
       (ap (λ (t : Bool). t || stands_there z xs) f.0 ∙ g.0, g.1)
 
 -- ---- what rules ask
-
-none_of : (x y : Option Item) → x ≡ None → y ≡ None → or_item x y ≡ None
-none_of x y h g = ap (λ (o : Option Item). or_item o y) h ∙ g
 
 module _ (q : Sought) (b p : ℕ) (e : Env) where
   one_apart : (v : Operand) (t : Qualifier) → same_span v.span q.span ≡ false → by_ask q b p e (ask v t) ≡ None
@@ -136,15 +136,12 @@ module _ (q : Sought) (b p : ℕ) (e : Env) where
 
 -- ---- where values go
 
-no_owner_of : (x y : Option Owner) → x ≡ None → y ≡ None → or_owner x y ≡ None
-no_owner_of x y h g = ap (λ (o : Option Owner). or_owner o y) h ∙ g
-
 module _ (q : Sought) (e : Env) where
   pass_apart : (v : Operand) (t : Qualifier) (to : Owner) → same_span v.span q.span ≡ false → by_pass q e (pass v t to) ≡ None
   pass_apart v t to h = ap (λ (c : Bool). cond (c && is_refused q.bit (qual_at e v.reg.0) t) (Some to) None) h
 
   single_pass_apart : (v : Operand) (t : Qualifier) (to : Owner) → same_span v.span q.span ≡ false → by_passes q e (pass v t to ∷ []) ≡ None
-  single_pass_apart v t to h = no_owner_of (by_pass q e (pass v t to)) None (pass_apart v t to h) refl
+  single_pass_apart v t to h = none_of (by_pass q e (pass v t to)) None (pass_apart v t to h) refl
 
   pass_if_apart : (o : Option Operand) (t : Qualifier) (to : Owner) → stands_there q.span (operand_if o) ≡ false → by_passes q e (pass_if o t to) ≡ None
   pass_if_apart None t to h = refl
@@ -154,7 +151,7 @@ module _ (q : Sought) (e : Env) where
   pass_args_apart m i [] vs h = refl
   pass_args_apart m i (t ∷ ts) [] h = refl
   pass_args_apart m i (t ∷ ts) (v ∷ vs) h =
-      no_owner_of (by_pass q e (pass v t (OfParameter m i))) (by_passes q e (pass_args m (i + 1) ts vs))
+      none_of (by_pass q e (pass v t (OfParameter m i))) (by_passes q e (pass_args m (i + 1) ts vs))
       (pass_apart v t _ (first_not q.span v vs h)) (pass_args_apart m (i + 1) ts vs (rest_not q.span v vs h))
 
   module _ (P : Program) (s : List Qualifier) where

@@ -1,6 +1,7 @@
 -- What is told of a row is what its rule found lacking.
 use Rattle.std.proofs.Common.{◌≡◌, ◌⊎◌, inl, inr, ⊎_elim, ℕ, zero, suc, ◌<◌, ◌≤◌, Bool, true, false, not, ◌&&◌, ◌||◌, cond, List, [], ◌∷◌, ◌++◌, length, Option, Some, None, refl, sym, ap, ◌∙◌, subst, arith}
 use Rattle.std.specs.Prelude.{eqb, slice_index_or}
+use Rattle.std.specs.Option.{option_or}
 use Rattle.std.specs.List.{Contains}
 use Rattle.std.proofs.lemmas.Bool.{eqb-true, false≢true, cases_lt}
 use Rattle.std.proofs.lemmas.List.Elements.{Contains-append_left, Contains-append_right}
@@ -29,7 +30,8 @@ use Rattle.jn_reasons_law.specs.declared.item.Bit.TheVariants.{Nullable, Committ
 use Rattle.jn_reasons_law.specs.declared.item.Item.{Item}
 use Rattle.jn_reasons_law.specs.declared.item.Item.TheVariants.{AtRegister}
 use Rattle.jn_reasons_law.specs.Items.{on}
-use Rattle.jn_notes.specs.Asked.{same_span, sought_of, or_item, first_item, by_ask, by_asks, by_point, by_number, by_body, register_item, item_by, item_of}
+use Rattle.jn_note_words.specs.Owned.{first_below}
+use Rattle.jn_notes.specs.Asked.{same_span, sought_of, by_ask, by_asks, by_point, by_number, by_body, register_item, item_by, item_of}
 use Rattle.jn_notes.specs.Asks.{Ask, ask, ask_if, ask_each, ask_args, asks, taking, elem_taken, write_taken, write_asks, argument_asks, receiver_asks, result_asks, local_asks, element_asks, equals_asks, bound_asks}
 use Rattle.jn_notes.specs.Lacking.{IsLacking, IsRefused, TakesAll}
 use Rattle.jn_notes.specs.declared.reads.Rule.{Rule}
@@ -82,20 +84,20 @@ or_left false b e = absurd (false≢true e)
 some_none : (x : Item) → Some x ≡ None → ⊥
 some_none x e = cc
 
-none_left : (x y : Option Item) → or_item x y ≡ None → x ≡ None
+none_left : (x y : Option Item) → option_or x y ≡ None → x ≡ None
 none_left None y e = refl
 none_left (Some x) y e = e
 
-none_right : (x y : Option Item) → or_item x y ≡ None → y ≡ None
+none_right : (x y : Option Item) → option_or x y ≡ None → y ≡ None
 none_right None y e = e
 none_right (Some x) y e = absurd (some_none x e)
 
 -- where no number gives one, none below gives one
-none_at : (f : ℕ → Option Item) (n i : ℕ) → i < n → first_item f n ≡ None → f i ≡ None
+none_at : (f : ℕ → Option Item) (n i : ℕ) → i < n → first_below f n ≡ None → f i ≡ None
 none_at f zero i lt h = absurd (omega (arith, lt))
 none_at f (suc n) i lt h = ⊎_elim
-    (λ (low : i < n). none_at f n i low (none_left (first_item f n) (f n) h))
-    (λ (le : n ≤ i). let same : n ≡ i = omega (arith, le, lt) in subst (λ (k : ℕ). f k ≡ None) same (none_right (first_item f n) (f n) h))
+    (λ (low : i < n). none_at f n i low (none_left (first_below f n) (f n) h))
+    (λ (le : n ≤ i). let same : n ≡ i = omega (arith, le, lt) in subst (λ (k : ℕ). f k ≡ None) same (none_right (first_below f n) (f n) h))
     (cases_lt i n)
 
 -- ---- rows

@@ -1,5 +1,5 @@
 -- The read of a field by which a chain leaves its first registers.
-use Rattle.std.proofs.Common.{◌≡◌, ◌⊎◌, inl, inr, ⊎_elim, ℕ, ◌<◌, Bool, true, false, cond, eqb, List, [], ◌∷◌, length, Option, Some, None, refl, sym, ap, subst}
+use Rattle.std.proofs.Common.{◌≡◌, ⊎_elim, ℕ, ◌<◌, Bool, true, false, cond, eqb, List, [], ◌∷◌, length, Option, Some, None, refl, sym, ap, subst}
 use Rattle.std.specs.Prelude.{slice_get}
 use Rattle.std.proofs.lemmas.Option.{slice_get_within}
 use Rattle.jn_points.specs.declared.point.Point.{Point}
@@ -15,14 +15,11 @@ use Rattle.jn_reasons_law.specs.declared.item.Place.{Place}
 use Rattle.jn_reasons_law.specs.declared.item.Place.TheVariants.{OfSlot, OfMethod, OfBody, OfPoint}
 use Rattle.jn_reasons_law.specs.declared.item.Step.{Step}
 use Rattle.jn_notes.specs.declared.voids.ReadAt.{ReadAt}
-use Rattle.jn_notes.specs.Voids.{goes_on, or_read, read_at, read_by, read_from, read_in}
+use Rattle.jn_notes.specs.Voids.{goes_on, read_at, read_by, read_from, read_in}
+use Rattle.jn_notes.proofs.Standing.{split_or}
 
 never : (x : ReadAt) → None ≡ Some x → ⊥
 never x e = absurd cc
-
-or_cases : (x y : Option ReadAt) (r : ReadAt) → or_read x y ≡ Some r → (x ≡ Some r) ⊎ (y ≡ Some r)
-or_cases None y r e = inr e
-or_cases (Some x) y r e = inl e
 
 cond_there : (c : Bool) (x : Option ReadAt) (r : ReadAt) → cond c x None ≡ Some r → x ≡ Some r
 cond_there true x r e = e
@@ -68,4 +65,4 @@ module _ (P : Program) where
   read_inside [] x e = absurd (never x e)
   read_inside (step ∷ steps) x e =
       ⊎_elim (λ h. from_inside step.item step.place x h) (λ h. read_inside steps x (cond_there (goes_on step) (read_in P steps) x h))
-      (or_cases (read_from P step.item step.place) (cond (goes_on step) (read_in P steps) None) x e)
+      (split_or (read_from P step.item step.place) (cond (goes_on step) (read_in P steps) None) x e)

@@ -8,6 +8,4 @@ mod Nearby
 mod Noting
 mod Saying
 mod Solving
-mod Speaking
 pub mod Standing
-mod Taking

@@ -1,6 +1,7 @@
 -- What is said of items, one more and step by step.
 use Rattle.std.proofs.Common.{◌≡◌, cond, ⊎_elim, ℕ, ◌+◌, ◌-◌, ◌<◌, ◌≤◌, List, [], ◌∷◌, length, take, Option, Some, None, sym, ap, ◌∙◌, subst, arith}
 use Rattle.std.specs.Prelude.{slice_index_or}
+use Rattle.std.specs.Option.{option_or}
 use Rattle.std.proofs.lemmas.List.{take_all}
 use Rattle.jn_points.specs.declared.program.Program.{Program}
 use Rattle.jn_reasons_law.specs.declared.item.Item.{Item}
@@ -15,7 +16,7 @@ use Rattle.jn_notes.specs.declared.said.Said.{Said}
 use Rattle.jn_notes.specs.declared.voids.ReadAt.{ReadAt}
 use Rattle.jn_notes.specs.Noted.{most_shown}
 use Rattle.jn_notes.specs.Said.{AreSaid, IsSaid, said_of}
-use Rattle.jn_notes.specs.Voids.{goes_on, or_read, read_from, read_in}
+use Rattle.jn_notes.specs.Voids.{goes_on, read_from, read_in}
 use Rattle.jn_notes.proofs.Leaving.{read_inside}
 
 some_said : (a b : Said) → Some a ≡ Some b → a ≡ b
@@ -42,7 +43,7 @@ said_more G x said old new h is put y other e = ⊎_elim (λ (same : y ≡ x). h
 -- ---- step by step
 
 pub said_whole : (P : Program) (x : Step) (behind : Said) (told' : Told) (read : Option ReadAt) → ((steps : List Step) → behind.told ≡ told_of most_shown steps → told' ≡ told_of most_shown (x ∷ steps))
-    → read ≡ or_read (read_from P x.item x.place) (cond (goes_on x) behind.read None)
+    → read ≡ option_or (read_from P x.item x.place) (cond (goes_on x) behind.read None)
     → (steps : List Step) → behind ≡ said_of P steps → record { told = told'; read = read } ≡ said_of P (x ∷ steps)
 said_whole P x behind told' read t r steps e = λ i. record { told = told_is i; read = read_is i }
   where
@@ -50,7 +51,7 @@ said_whole P x behind told' read t r steps e = λ i. record { told = told_is i; 
     told_is = t steps (ap (λ (a : Said). a.told) e)
 
     read_is : read ≡ read_in P (x ∷ steps)
-    read_is = r ∙ ap (λ (a : Said). or_read (read_from P x.item x.place) (cond (goes_on x) a.read None)) e
+    read_is = r ∙ ap (λ (a : Said). option_or (read_from P x.item x.place) (cond (goes_on x) a.read None)) e
 
 module _ (G : Ground) (K : Item → Option Rest) (R : AreRests G K) where
   -- a step to the text
@@ -100,13 +101,3 @@ module _ (G : Ground) (K : Item → Option Rest) (item : Item) (steps : List Ste
 -- the read is in a body that is there
 pub said_inside : (G : Ground) (P : Program) (x : Item) (said : Said) → G.program ≡ P → IsSaid G x said → (read : ReadAt) → said.read ≡ Some read → read.body < length P.bodies
 said_inside G P x said p h read e = subst (λ (Q : Program). read.body < length Q.bodies) p (read_inside G.program h.steps read (sym (ap (λ (y : Said). y.read) h.is) ∙ e))
-
--- what is kept of an item is there
-pub end_there : (says : Item → Option Said) (x : Item) → IsEnd Said says (Some x) → says x ≡ None → ⊥
-end_there says x h none = clash h.0 (sym h.1 ∙ none)
-  where
-    clash : (said : Said) → Some said ≡ None → ⊥
-    clash said e = cc
-
-pub next_there : (says : Item → Option Said) (next : Option Item) (x : Item) → IsEnd Said says next → next ≡ Some x → says x ≡ None → ⊥
-next_there says next x h e none = end_there says x (subst (IsEnd Said says) e h) none

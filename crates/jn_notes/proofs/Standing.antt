@@ -1,6 +1,7 @@
 -- What a row speaks of stands: so it has a chain.
 use Rattle.std.proofs.Common.{◌≡◌, ◌⊎◌, inl, inr, ⊎_elim, ℕ, zero, suc, Bool, true, false, cond, ◌&&◌, not, List, [], ◌∷◌, length, Option, Some, None, refl, ap, subst}
 use Rattle.std.specs.Prelude.{slice_index_or}
+use Rattle.std.specs.Option.{option_or}
 use Rattle.std.proofs.lemmas.Bool.{false≢true, true≢false}
 use Rattle.jn_base.specs.declared.number.SlotNo.{SlotNo}
 use Rattle.jn_base.specs.declared.place.Span.{Span}
@@ -20,11 +21,12 @@ use Rattle.jn_reasons_law.specs.declared.item.Bit.TheVariants.{Nullable, Free}
 use Rattle.jn_reasons_law.specs.declared.item.Item.{Item}
 use Rattle.jn_reasons_law.specs.declared.item.Item.TheVariants.{AtSlot, AtRegister}
 use Rattle.jn_reasons_law.specs.Items.{on, Stands}
+use Rattle.jn_note_words.specs.Owned.{first_below}
 use Rattle.jn_notes.specs.Asks.{Ask, asks}
 use Rattle.jn_notes.specs.declared.reads.Sought.{Sought}
 use Rattle.jn_notes.specs.declared.pairs.Part.{Part}
 use Rattle.jn_notes.specs.declared.pairs.Part.TheVariants.{OverParameters, OverReceiver, OverResult}
-use Rattle.jn_notes.specs.Asked.{sought_of, part_of, same_span, or_item, first_item, by_ask, by_asks, by_point, by_number, by_body, lacking, lacking_bit, some_lacking, by_part, by_override, by_lower, by_under, by_overriders, slot_item, item_by, item_of, stands_at}
+use Rattle.jn_notes.specs.Asked.{sought_of, part_of, same_span, by_ask, by_asks, by_point, by_number, by_body, lacking, lacking_bit, some_lacking, by_part, by_override, by_lower, by_under, by_overriders, slot_item, item_by, item_of, stands_at}
 
 abbrev is_nothing : Option Item → Bool
 is_nothing None = true
@@ -33,16 +35,16 @@ is_nothing (Some x) = false
 pub none_some : (x : Item) → None ≡ Some x → ⊥
 none_some x e = true≢false (ap is_nothing e)
 
-pub split_or : (u v : Option Item) (x : Item) → or_item u v ≡ Some x → (u ≡ Some x) ⊎ (v ≡ Some x)
+pub split_or : {A : Type 0} (u v : Option A) (x : A) → option_or u v ≡ Some x → (u ≡ Some x) ⊎ (v ≡ Some x)
 split_or None v x e = inr e
 split_or (Some y) v x e = inl e
 
 -- a number gives it
-pub given_by : (f : ℕ → Option Item) (n : ℕ) (x : Item) → first_item f n ≡ Some x → (i : ℕ) × (f i ≡ Some x)
+pub given_by : (f : ℕ → Option Item) (n : ℕ) (x : Item) → first_below f n ≡ Some x → (i : ℕ) × (f i ≡ Some x)
 given_by f zero x e = absurd (none_some x e)
-given_by f (suc n) x e = by (λ h. given_by f n x h) (split_or (first_item f n) (f n) x e)
+given_by f (suc n) x e = by (λ h. given_by f n x h) (split_or (first_below f n) (f n) x e)
   where
-    by : (first_item f n ≡ Some x → (i : ℕ) × (f i ≡ Some x)) → (first_item f n ≡ Some x) ⊎ (f n ≡ Some x) → (i : ℕ) × (f i ≡ Some x)
+    by : (first_below f n ≡ Some x → (i : ℕ) × (f i ≡ Some x)) → (first_below f n ≡ Some x) ⊎ (f n ≡ Some x) → (i : ℕ) × (f i ≡ Some x)
     by before (inl h) = before h
     by before (inr h) = (n, h)
 
@@ -121,7 +123,7 @@ module _ (s : List Qualifier) (tables : List Table) where
     under_stands : (span : Span) (part : Part) (over : Option Method) (ks : List ℕ) (x : Item) → by_under P s span part over ks ≡ Some x → Stands s tables x
     under_stands span part over ks x h = by (stands_at span over) h
       where
-        by : (t : Bool) → cond t (first_item (by_lower P s part over ks) (length ks)) None ≡ Some x → Stands s tables x
+        by : (t : Bool) → cond t (first_below (by_lower P s part over ks) (length ks)) None ≡ Some x → Stands s tables x
         by true g = let r = given_by (by_lower P s part over ks) (length ks) x g in override_stands part over (method_at P (slice_index_or ks r.0 0)) x r.1
         by false g = absurd (none_some x g)
 

@@ -1,6 +1,7 @@
 -- The item that a row speaks of. A row that speaks of a value points to an operand: its item is the first register that is read there and has the
 -- bit, where the row's rule doesn't take it, by body, point and operand. A row of an overriding pair points to the overrider: its item is the slot that has a bit which its partner lacks.
-use Rattle.std.specs.Prelude.{ℕ, zero, suc, Bool, false, cond, not, ◌&&◌, eqb, List, [], ◌∷◌, length, Option, Some, None, slice_index_or}
+use Rattle.std.specs.Prelude.{ℕ, Bool, false, cond, not, ◌&&◌, eqb, List, [], ◌∷◌, length, Option, Some, None, slice_index_or}
+use Rattle.std.specs.Option.{option_or}
 use Rattle.jn_base.specs.declared.place.Span.{Span}
 use Rattle.jn_base.specs.declared.place.Row.{Row}
 use Rattle.jn_base.specs.declared.code.Code.{Code}
@@ -22,6 +23,7 @@ use Rattle.jn_reasons_law.specs.declared.item.Bit.TheVariants.{Nullable, Free}
 use Rattle.jn_reasons_law.specs.declared.item.Item.{Item}
 use Rattle.jn_reasons_law.specs.declared.item.Item.TheVariants.{AtSlot, AtRegister}
 use Rattle.jn_reasons_law.specs.Items.{on}
+use Rattle.jn_note_words.specs.Owned.{first_below}
 use Rattle.jn_notes.specs.Asks.{Ask, asks}
 use Rattle.jn_notes.specs.declared.reads.Rule.{Rule}
 use Rattle.jn_notes.specs.declared.reads.Rule.TheVariants.{Dereference, Write, Argument, Receiver, Result as ResultRule, Local as LocalRule, Element}
@@ -60,16 +62,6 @@ part_of code = None
 abbrev pub same_span : Span → Span → Bool
 same_span x y = eqb x.file.0 y.file.0 && eqb x.from y.from && eqb x.to y.to
 
--- the first where there is one, else the second
-abbrev pub or_item : Option Item → Option Item → Option Item
-or_item None y = y
-or_item (Some x) y = Some x
-
--- the first of the numbers below n that gives one
-abbrev pub first_item : (ℕ → Option Item) → ℕ → Option Item
-first_item f zero = None
-first_item f (suc n) = or_item (first_item f n) (f n)
-
 module _ (q : Sought) (b p : ℕ) (e : Env) where
   -- a value that stands there and has the bit, which isn't taken
   abbrev pub by_ask : Ask → Option Item
@@ -78,7 +70,7 @@ module _ (q : Sought) (b p : ℕ) (e : Env) where
   -- the first of these values that is so
   abbrev pub by_asks : List Ask → Option Item
   by_asks [] = None
-  by_asks (a ∷ as') = or_item (by_ask a) (by_asks as')
+  by_asks (a ∷ as') = option_or (by_ask a) (by_asks as')
 
 module _ (P : Program) (s : List Qualifier) (q : Sought) where
   module _ (b : ℕ) where
@@ -95,11 +87,11 @@ module _ (P : Program) (s : List Qualifier) (q : Sought) where
 
       -- the same of a body that may be missing
       abbrev pub by_body : Option Item
-      by_body = first_item by_number (length (points_of (body_at P b)))
+      by_body = first_below by_number (length (points_of (body_at P b)))
 
   -- the first register that is read where the rule finds the bit lacking
   abbrev pub register_item : List Table → Option Item
-  register_item tables = first_item (λ b. by_body b (slice_index_or tables b [])) (length P.bodies)
+  register_item tables = first_below (λ b. by_body b (slice_index_or tables b [])) (length P.bodies)
 
 -- what the first qualifier has and the second lacks: null before under construction
 abbrev pub lacking_bit : ℕ → Qualifier → Qualifier → Option Item
@@ -115,7 +107,7 @@ module _ (s : List Qualifier) where
   abbrev pub some_lacking : List (Option SlotNo) → List (Option SlotNo) → Option Item
   some_lacking [] ys = None
   some_lacking (x ∷ xs) [] = None
-  some_lacking (x ∷ xs) (y ∷ ys) = or_item (lacking x y) (some_lacking xs ys)
+  some_lacking (x ∷ xs) (y ∷ ys) = option_or (lacking x y) (some_lacking xs ys)
 
   -- what the overridden method's parameters and receiver have and the overrider's lack, or the overrider's result has and the other's lacks
   abbrev pub by_part : Part → Method → Method → Option Item
@@ -142,7 +134,7 @@ module _ (P : Program) (s : List Qualifier) where
   module _ (span : Span) (part : Part) where
     -- where the row points to it
     abbrev pub by_under : Option Method → List ℕ → Option Item
-    by_under over ks = cond (stands_at span over) (first_item (by_lower part over ks) (length ks)) None
+    by_under over ks = cond (stands_at span over) (first_below (by_lower part over ks) (length ks)) None
 
     -- of the method with this number, where the row points to it
     abbrev pub by_overrider : ℕ → Option Item
@@ -155,7 +147,7 @@ module _ (P : Program) (s : List Qualifier) where
   -- of a code on overriding, the first slot of such a pair at the span that has a bit which its partner lacks
   abbrev pub slot_item : Span → Option Part → Option Item
   slot_item span None = None
-  slot_item span (Some part) = first_item (by_overriders span part) (length (overriders P))
+  slot_item span (Some part) = first_below (by_overriders span part) (length (overriders P))
 
   -- a register where the row is of a value, else a slot of an overriding pair
   abbrev pub item_by : Row → List Table → Option Sought → Option Item

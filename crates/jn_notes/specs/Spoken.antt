@@ -1,6 +1,7 @@
 -- The declarations that a row speaks of, whose notes stand before those of its chain: what takes the value, what is overridden, or the fields that a
 -- constructor leaves unassigned.
 use Rattle.std.specs.Prelude.{ℕ, ◌+◌, Bool, false, cond, codes, eqb, not, ◌&&◌, List, [], ◌∷◌, ◌++◌, length, flat_map, Option, Some, None, slice_index_or}
+use Rattle.std.specs.Option.{option_or}
 use Rattle.jn_base.specs.declared.code.Code.{Code}
 use Rattle.jn_base.specs.declared.code.Code.TheVariants.{CtorFields}
 use Rattle.jn_base.specs.declared.place.Row.{Row}
@@ -36,7 +37,7 @@ use Rattle.jn_notes.specs.declared.topics.Topic.{Topic}
 use Rattle.jn_notes.specs.declared.topics.Topic.TheVariants.{Takes, Overridden, Unassigned}
 use Rattle.jn_notes.specs.Asked.{part_of, same_span, sought_of, stands_at}
 use Rattle.jn_notes.specs.Asks.{write_taken}
-use Rattle.jn_note_words.specs.Owned.{first_owner, or_owner}
+use Rattle.jn_note_words.specs.Owned.{first_below}
 use Rattle.jn_note_words.specs.Worded.{field_name, owner_span, owner_words}
 
 -- ---- what takes a value
@@ -118,7 +119,7 @@ module _ (q : Sought) (e : Env) where
   -- of the first of these values that is so
   abbrev pub by_passes : List Pass → Option Owner
   by_passes [] = None
-  by_passes (x ∷ xs) = or_owner (by_pass x) (by_passes xs)
+  by_passes (x ∷ xs) = option_or (by_pass x) (by_passes xs)
 
 module _ (P : Program) (s : List Qualifier) (q : Sought) where
   module _ (b : ℕ) where
@@ -135,11 +136,11 @@ module _ (P : Program) (s : List Qualifier) (q : Sought) where
 
       -- at the first of the body's points where there is one
       abbrev pub taker_in : Option Owner
-      taker_in = first_owner taker_at (length (points_of (body_at P b)))
+      taker_in = first_below taker_at (length (points_of (body_at P b)))
 
   -- what takes the row's value where its rule is broken, by body, point and operand the first
   abbrev pub taker : List Table → Option Owner
-  taker tables = first_owner (λ b. taker_in b (slice_index_or tables b [])) (length P.bodies)
+  taker tables = first_below (λ b. taker_in b (slice_index_or tables b [])) (length P.bodies)
 
 -- ---- what is overridden
 
@@ -152,7 +153,7 @@ module _ (k : ℕ) where
   abbrev pub first_outside : ℕ → List Qualifier → List Qualifier → Option Owner
   first_outside i [] over = None
   first_outside i (x ∷ lower) [] = None
-  first_outside i (x ∷ lower) (y ∷ over) = or_owner (if_outside x y (OfParameter k i)) (first_outside (i + 1) lower over)
+  first_outside i (x ∷ lower) (y ∷ over) = option_or (if_outside x y (OfParameter k i)) (first_outside (i + 1) lower over)
 
   module _ (s : List Qualifier) where
     -- what a method narrows or widens of method k, which it overrides
@@ -175,7 +176,7 @@ module _ (P : Program) (s : List Qualifier) where
   module _ (span : Span) (part : Part) where
     -- of a method with those that it overrides, where the row points to it
     abbrev pub changed_by : Option Method → List ℕ → Option Owner
-    changed_by over ks = cond (stands_at span over) (first_owner (changed_at part over ks) (length ks)) None
+    changed_by over ks = cond (stands_at span over) (first_below (changed_at part over ks) (length ks)) None
 
     -- of the method at this place of the list of those that override
     abbrev pub overridden_at : ℕ → Option Owner
@@ -183,7 +184,7 @@ module _ (P : Program) (s : List Qualifier) where
 
     -- what the first overrider at the place changes of the first method of which it changes this part
     abbrev pub overridden_of : Option Owner
-    overridden_of = first_owner overridden_at (length (overriders P))
+    overridden_of = first_below overridden_at (length (overriders P))
 
 -- ---- what is left unassigned
 

@@ -1,6 +1,7 @@
 -- The notes of a fact that something made void: where a field was tested or assigned so that it isn't null, and what may have changed that since, before
 -- the field was read.
 use Rattle.std.specs.Prelude.{ℕ, ◌≡◌, Bool, true, false, cond, codes, eqb, not, ◌&&◌, List, [], ◌∷◌, ◌++◌, Option, Some, None, slice_index_or}
+use Rattle.std.specs.Option.{option_or}
 use Rattle.jn_quals.specs.Qualifier.{Qualifier}
 use Rattle.jn_points.specs.declared.point.Point.{Point}
 use Rattle.jn_points.specs.declared.point.PointKind.{PointKind}
@@ -33,11 +34,6 @@ abbrev pub read_at : ℕ → ℕ → ℕ → Option Point → Option ReadAt
 read_at b p r None = None
 read_at b p r (Some pt) = read_by b p r pt.kind
 
--- the first where there is one, else the second
-abbrev pub or_read : Option ReadAt → Option ReadAt → Option ReadAt
-or_read None y = y
-or_read (Some x) y = Some x
-
 -- a null in a register comes from a point
 abbrev pub is_carried : Item → Place → Bool
 is_carried (AtRegister b p r Nullable) (OfPoint c q) = true
@@ -66,7 +62,7 @@ module _ (P : Program) where
   -- the first read of the steps, before they leave the registers: what a slot has comes from no read here
   abbrev pub read_in : List Step → Option ReadAt
   read_in [] = None
-  read_in (x ∷ xs) = or_read (read_from x.item x.place) (cond (goes_on x) (read_in xs) None)
+  read_in (x ∷ xs) = option_or (read_from x.item x.place) (cond (goes_on x) (read_in xs) None)
 
   -- ---- its notes
 

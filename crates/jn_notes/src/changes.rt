@@ -3,7 +3,7 @@ ghost use Rattle.std.specs.Prelude.{◌≡◌, length, Some};
 ghost use Rattle.jn_points.specs.Lookup.{method_at};
 ghost use Rattle.jn_sigs.specs.Signature.{slot_quals};
 ghost use Rattle.jn_sites.specs.Near.{AreNear};
-ghost use Rattle.jn_note_words.specs.Owned.{first_owner};
+ghost use Rattle.jn_note_words.specs.Owned.{first_below};
 ghost use Rattle.jn_notes.specs.Spoken as spec;
 
 use crate::pairs::Part;
@@ -87,7 +87,7 @@ fn by_lowers(
     under: &[u32],
 ) -> Option<Owner>
     ensures { result
-        ≡ first_owner (spec.changed_at program.now sig.now part (Some over.now) under.now)
+        ≡ first_below (spec.changed_at program.now sig.now part (Some over.now) under.now)
         (length under.now) }
 {
     for i in 0..under.len() {

@@ -1,15 +1,17 @@
 //! The first register that a rule reads at a place, and what takes it: by the points that are kept for the place, else by all.
 ghost use Rattle.std.specs.Prelude.{◌≡◌};
 ghost use Rattle.jn_notes.specs.Asked.{register_item};
-ghost use Rattle.jn_notes.specs.Found.{first_of, item_by, owner_by};
+ghost use Rattle.jn_note_words.specs.Owned.{first_of};
+ghost use Rattle.jn_notes.specs.Found.{item_by, owner_by};
 ghost use Rattle.jn_notes.specs.Spoken.{taker};
 
 use crate::placed::Placed;
-use crate::reads::{Sought, by_point as item_by_point, register_item, table_of};
+use crate::reads::{Sought, by_point as item_by_point, register_item};
 use crate::takers::{by_point as owner_by_point, taker};
 use jn_env::FlowTable;
 use jn_note_words::owners::Owner;
 use jn_note_words::spans::point_at;
+use jn_origins::slots::table_of;
 use jn_points::Program;
 use jn_reasons::Spot;
 use jn_reasons_law::Item;

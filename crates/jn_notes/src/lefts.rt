@@ -6,13 +6,14 @@ ghost use Rattle.jn_env.specs.Order.{env_in};
 ghost use Rattle.jn_notes.specs.Asked.{stands_at};
 ghost use Rattle.jn_notes.specs.Spoken as spec;
 
-use crate::reads::{same_span, table_of};
+use crate::reads::same_span;
 use crate::topics::Topic;
 use jn_base::lists::put;
 use jn_base::{BodyNo, Code, FieldNo, OutOfMemory, Span};
 use jn_env::bits::is_assigned_by;
 use jn_env::{Env, FieldNumbers, env_at, find_keys};
 use jn_origins::Basis;
+use jn_origins::slots::table_of;
 use jn_points::lookup::method_in;
 use jn_points::{Point, PointKind, Program};
 use jn_sigs::Sig;

@@ -2,9 +2,10 @@
 ghost use Rattle.std.specs.Prelude.{◌≡◌, length, None, Some};
 ghost use Rattle.jn_points.specs.Lookup.{method_at};
 ghost use Rattle.jn_sites.specs.Near.{AreNear};
-ghost use Rattle.jn_notes.specs.Asked.{by_lower, by_override, by_part, by_under, first_item, lacking, lacking_bit, part_of, slot_item, some_lacking};
+ghost use Rattle.jn_note_words.specs.Owned.{first_below};
+ghost use Rattle.jn_notes.specs.Asked.{by_lower, by_override, by_part, by_under, lacking, lacking_bit, part_of, slot_item, some_lacking};
 
-use crate::reads::{or_item, same_span};
+use crate::reads::same_span;
 use jn_base::{Code, SlotNo, Span, least};
 use jn_contrib::Overrider;
 use jn_points::lookup::method_at;
@@ -96,7 +97,7 @@ fn by_lower(sig: &Sig, part: Part, program: &Program, over: &Method, lower: u32)
 
 fn by_lowers(sig: &Sig, part: Part, program: &Program, over: &Method, under: &[u32]) -> Option<Item>
     ensures { result
-        ≡ first_item (by_lower program.now sig.now part (Some over.now) under.now)
+        ≡ first_below (by_lower program.now sig.now part (Some over.now) under.now)
         (length under.now) }
 {
     for i in 0..under.len() {

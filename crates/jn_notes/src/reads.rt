@@ -6,11 +6,12 @@ ghost use Rattle.jn_env.specs.Order.{env_in};
 ghost use Rattle.jn_sigs.specs.Signature.{receiver_of, result_of, slot_quals};
 ghost use Rattle.jn_tables_law.specs.Inferable.{IsInferable};
 ghost use Rattle.jn_reasons_law.specs.Items.{on};
-ghost use Rattle.jn_notes.specs.Asked.{by_ask, by_asks, by_body, by_point, or_item, register_item, same_span, seeks, sought_of};
+ghost use Rattle.jn_notes.specs.Asked.{by_ask, by_asks, by_body, by_point, register_item, same_span, seeks, sought_of};
 ghost use Rattle.jn_notes.specs.Asks as spec;
 
 use jn_base::{BodyNo, Code, FieldNo, MethodNo, PointNo, Row, SlotNo, Span, least};
 use jn_env::{Env, FlowTable, env_at};
+use jn_origins::slots::table_of;
 use jn_points::lookup::{is_monotonic, reg_base};
 use jn_points::{BaseType, Operand, Point, PointKind, Program, StrOperation};
 use jn_quals::Qual;
@@ -91,16 +92,6 @@ fn is_on(qual: Qual, bit: Bit) -> bool
     }
 }
 
-/// The first where there is one, else the second.
-pub(crate) fn or_item(first: Option<Item>, second: Option<Item>) -> Option<Item>
-    ensures { result ≡ or_item first second }
-{
-    match first {
-        None => second,
-        Some(item) => Some(item),
-    }
-}
-
 /// The value's register, where it stands at the span and has the bit, and that isn't taken.
 fn by_ask(sought: Sought, spot: Spot, env: &Env, value: Operand, taken: Qual) -> Option<Item>
     ensures { result
@@ -119,7 +110,7 @@ fn by_one(sought: Sought, spot: Spot, env: &Env, value: Operand, taken: Qual) ->
     ensures { result
         ≡ by_asks sought spot.body.0 spot.point.0 env.now (spec.ask value taken ∷ []) }
 {
-    or_item(by_ask(sought, spot, env, value, taken), None)
+    by_ask(sought, spot, env, value, taken)
 }
 
 fn by_maybe(
@@ -534,16 +525,6 @@ fn by_body(
     let info = &program.bodies.as_slice()[body.0 as usize];
     let points = info.points.as_slice();
     by_points(sought, program, sig, body, points, table_of(tables, body))
-}
-
-/// The table of a body; empty where it isn't there.
-pub(crate) fn table_of(tables: &[FlowTable], body: BodyNo) -> &[Option<Env>]
-    ensures { result.now ≡ slice_index_or tables.now body.0 [] }
-{
-    match tables.get(body.0 as usize) {
-        None => &[],
-        Some(table) => table.slots(),
-    }
 }
 
 /// The first register that is read at the span and has the bit where the rule doesn't take it, by body, point and operand.

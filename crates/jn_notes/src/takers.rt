@@ -7,10 +7,11 @@ ghost use Rattle.jn_tables_law.specs.Inferable.{IsInferable};
 ghost use Rattle.jn_transfer.specs.Rules.{lacks_init};
 ghost use Rattle.jn_notes.specs.Spoken as spec;
 
-use crate::reads::{Rule, Sought, body_result, receiver_qual, same_span, table_of, write_taken};
+use crate::reads::{Rule, Sought, body_result, receiver_qual, same_span, write_taken};
 use jn_base::{BodyNo, MethodNo, PointNo, SlotNo, least};
 use jn_env::{Env, FlowTable, env_at};
 use jn_note_words::owners::Owner;
+use jn_origins::slots::table_of;
 use jn_points::{Operand, Point, PointKind, Program};
 use jn_quals::Qual;
 use jn_reasons::Spot;

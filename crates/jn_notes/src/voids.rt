@@ -1,5 +1,6 @@
 //! The notes of a test or an assignment that something made void.
 ghost use Rattle.std.specs.Prelude.{◌≡◌, ◌<◌, [], length, IfOk, None, Some, cond, slice_index_or};
+ghost use Rattle.std.specs.Option.{option_or};
 ghost use Rattle.jn_points.specs.Lookup.{field_info, method_in, point_at, static_of};
 ghost use Rattle.jn_voided.specs.Voided.{IsFound};
 ghost use Rattle.jn_notes.specs.declared.voids.ReadAt.{ReadAt};
@@ -86,7 +87,7 @@ fn goes_on(step: Step) -> bool
 
 /// The first read of a field of a chain's steps, before they leave the registers, by its first step and that of the steps behind.
 pub(crate) fn read_with(program: &Program, step: Step, behind: Option<ReadAt>) -> Option<ReadAt>
-    ensures { result ≡ spec.or_read (spec.read_from program.now step.item step.place)
+    ensures { result ≡ option_or (spec.read_from program.now step.item step.place)
         (cond (spec.goes_on step) behind None) }
 {
     let found = read_from(program, step.item, step.place);

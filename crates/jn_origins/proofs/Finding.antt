@@ -63,10 +63,6 @@ module _ (s : List Qualifier) (tables : List Table) where
       split false is f m = later (f m)
 
 module _ (G : Ground) where
-  -- of the text there are none
-  pub none_found : (list : List Cause) → list ≡ [] → AreCauses G None list
-  none_found list e = record { all = λ p z i. absurd i; none_else = λ p z m. absurd (subst (IsListed (cause_at p z)) e m) }
-
   pub found : (x : Item) (list : List Cause)
       → ((p : Place) (z : Option Item) → IsCause G.program G.sig G.tables x p z → IsListed (cause_at p z) (causes G.program G.sig G.tables x))
       → ((p : Place) (z : Option Item) → IsListed (cause_at p z) (causes G.program G.sig G.tables x) → IsCause G.program G.sig G.tables x p z)

@@ -32,25 +32,6 @@ at lists k = slice_index_or lists k []
 -- ---- lists that grow
 
 module _ (from : ℕ) where
-  pub led_none : (a : List (List ℕ)) → AreLed from [] a a
-  led_none a = record { long = refl; kept = λ k x h. h; there = λ k lt h. absurd h }
-
-  -- the point right after it
-  pub led_next : (a : List (List ℕ)) (n : ℕ) → n ≡ from + 1 → AreLed from (n ∷ []) a a
-  led_next a n e = record { long = refl; kept = λ k x h. h; there = λ k lt h. by k h }
-    where
-      by : (k : ℕ) → IsOf k (n ∷ []) → (k ≡ from + 1) ⊎ IsOf from (at a k)
-      by k (inl same) = inl (same ∙ e)
-      by k (inr h) = absurd h
-
-  -- one that isn't there
-  pub led_past : (a : List (List ℕ)) (n : ℕ) → length a ≤ n → AreLed from (n ∷ []) a a
-  led_past a n le = record { long = refl; kept = λ k x h. h; there = λ k lt h. by k lt h }
-    where
-      by : (k : ℕ) → k < length a → IsOf k (n ∷ []) → (k ≡ from + 1) ⊎ IsOf from (at a k)
-      by k lt (inl same) = absurd (omega (arith, lt, le, same))
-      by k lt (inr h) = absurd h
-
   pub led_one : (a c : List (List ℕ)) (n : ℕ) → length c ≡ length a → ((d : ℕ) → at c d ≡ at a d ++ cond (eqb n d) (from ∷ []) []) → AreLed from (n ∷ []) a c
   led_one a c n long h = record {
     long = long;
@@ -71,9 +52,6 @@ module _ (from : ℕ) where
         (λ (o : IsOf k ys). g.there k (omega (arith, lt, l)) o) (of_either k xs ys m);
   }
 
-pub jumps_none : (points : List Point) (lists : List (List ℕ)) → length lists ≡ length points → AreJumpsBelow 0 points lists
-jumps_none points lists long = record { long = long; all = λ q k pt lt is inside h. absurd (omega (arith, lt)) }
-
 -- one point more
 pub jumps_more : (points : List Point) (n : ℕ) (e : Edges) (a c : List (List ℕ)) → e ≡ edges_at (slice_get points n) n → AreJumpsBelow n points a → AreLed n (edge_list e) a c → AreJumpsBelow (n + 1) points c
 jumps_more points n e a c edges h g = record { long = g.long ∙ h.long; all = λ q k pt lt is inside i. by q k pt lt is inside i (cases_lt q n) }
@@ -86,9 +64,6 @@ jumps_more points n e a c edges h g = record { long = g.long ∙ h.long; all = �
         let long = h.long in
         subst (λ (m : ℕ). (k ≡ m + 1) ⊎ IsOf m (at c k)) same
         (g.there k (omega (arith, inside, long)) (subst (λ (x : Edges). IsOf k (edge_list x)) (sym here) i))
-
-pub jumps_done : (points : List Point) (n : ℕ) (lists : List (List ℕ)) → length points ≤ n → AreJumpsBelow n points lists → AreJumps points lists
-jumps_done points n lists le h = record { long = h.long; all = λ q k pt lt is inside i. h.all q k pt (omega (arith, lt, le)) is inside i }
 
 -- ---- what is known of bodies
 
@@ -105,12 +80,6 @@ got_pushed (z ∷ xs) x y zero e = inl e
 got_pushed (z ∷ xs) x y (suc b) e = ⊎_elim (λ (h : slice_get xs b ≡ Some y). inl h) (λ (h : (b ≡ length xs) × (y ≡ x)). inr (ap suc h.0, h.1)) (got_pushed xs x y b e)
 
 module _ (P : Program) where
-  none_got : (b : ℕ) (x : KnownBody) → slice_get [] b ≡ Some x → ⊥
-  none_got b x e = none_some x e
-
-  pub known_none : (list : List KnownBody) → list ≡ [] → AreKnownBelow P 0 list
-  known_none list e = record { long = ap length e; each = λ b x h. absurd (none_got b x (subst (λ (l : List KnownBody). slice_get l b ≡ Some x) e h)) }
-
   pub known_more : (n : ℕ) (xs new : List KnownBody) (x : KnownBody) → new ≡ xs ++ x ∷ [] → AreKnownBelow P n xs → IsKnown P n x → AreKnownBelow P (n + 1) new
   known_more n xs new x e h i = subst (AreKnownBelow P (n + 1)) (sym e) (record {
     long = length_push xs x ∙ ap (λ (k : ℕ). k + 1) h.long;

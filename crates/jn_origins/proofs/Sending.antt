@@ -2,7 +2,7 @@
 use Rattle.std.proofs.Common.{◌≡◌, ◌⊎◌, inl, inr, ⊎_elim, ℕ, zero, suc, ◌+◌, ◌<◌, ◌≤◌, Bool, true, false, cond, ◌&&◌, ◌||◌, List, [], ◌∷◌, ◌++◌, length, take, Option, Some, None, refl, sym, ap, ◌∙◌, subst, arith, append_assoc, append-nil}
 use Rattle.std.specs.Prelude.{eqb, slice_get, slice_index_or}
 use Rattle.std.proofs.lemmas.Bool.{cases_lt, eqb-true, eq-eqb, false≢true, true≢false}
-use Rattle.std.proofs.lemmas.List.{take_more, take_all}
+use Rattle.std.proofs.lemmas.List.{take_more}
 use Rattle.jn_base.specs.declared.number.SlotNo.{SlotNo}
 use Rattle.jn_quals.specs.Qualifier.{Qualifier}
 use Rattle.jn_quals.specs.Order.{null_only, settle, without_null}
@@ -57,33 +57,6 @@ module _ (P : Program) (b : ℕ) where
   abbrev at : List (List ℕ) → ℕ → List ℕ
   at lists k = slice_index_or lists k []
 
-  pub added_none : (a : List (List ℕ)) → Added P b [] a a
-  added_none a = record { long = refl; kept = λ k x h. h; there = λ k lt h i. absurd h }
-
-  -- a slot that isn't inferred
-  pub added_written : (a : List (List ℕ)) (n : ℕ) → is_inferred (slice_get P.slots n) ≡ false → Added P b (n ∷ []) a a
-  added_written a n e = record { long = refl; kept = λ k x h. h; there = λ k lt h i. by k h i }
-    where
-      by : (k : ℕ) → IsOf k (n ∷ []) → is_inferred (slice_get P.slots k) ≡ true → IsOf b (at a k)
-      by k (inl same) i = absurd (true≢false (sym i ∙ ap (λ (m : ℕ). is_inferred (slice_get P.slots m)) same ∙ e))
-      by k (inr h) i = absurd h
-
-  -- one that isn't there
-  pub added_past : (a : List (List ℕ)) (n : ℕ) → length a ≤ n → Added P b (n ∷ []) a a
-  added_past a n le = record { long = refl; kept = λ k x h. h; there = λ k lt h i. by k lt h }
-    where
-      by : (k : ℕ) → k < length a → IsOf k (n ∷ []) → IsOf b (at a k)
-      by k lt (inl same) = absurd (omega (arith, lt, le, same))
-      by k lt (inr h) = absurd h
-
-  -- one whose list has the body
-  pub added_there : (a : List (List ℕ)) (n : ℕ) → IsOf b (at a n) → Added P b (n ∷ []) a a
-  added_there a n m = record { long = refl; kept = λ k x h. h; there = λ k lt h i. by k h }
-    where
-      by : (k : ℕ) → IsOf k (n ∷ []) → IsOf b (at a k)
-      by k (inl same) = subst (λ (j : ℕ). IsOf b (at a j)) (sym same) m
-      by k (inr h) = absurd h
-
   -- one more body in a list
   pub added_one : (a c : List (List ℕ)) (n : ℕ) → length c ≡ length a → ((d : ℕ) → at c d ≡ at a d ++ cond (eqb n d) (b ∷ []) []) → Added P b (n ∷ []) a c
   added_one a c n long h = record {
@@ -137,15 +110,6 @@ module _ (P : Program) (b : ℕ) where
       let same : all_targets P b (take (i + 1) points) ≡ all_targets P b (take i points) ++ targets P b x.kind = ap (all_targets P b) (take_more points i d lt) ∙ targets_append (take i points) (x ∷ []) ∙ ap (λ (l : List ℕ). all_targets P b (take i points) ++ l) (append-nil (targets P b x.kind)) in
       subst (λ (l : List ℕ). Added P b l a e) (sym same) (added_both (all_targets P b (take i points)) (targets P b x.kind) a c e h g)
 
-  pub slots_done : (slots : List (Option SlotNo)) (i : ℕ) (a c : List (List ℕ)) → length slots ≤ i → Added P b (slots_list (take i slots)) a c → Added P b (slots_list slots) a c
-  slots_done slots i a c le h = subst (λ (l : List (Option SlotNo)). Added P b (slots_list l) a c) (take_all i slots le) h
-
-  pub fields_done : (fields : List ℕ) (i : ℕ) (a c : List (List ℕ)) → length fields ≤ i → Added P b (fields_list P (take i fields)) a c → Added P b (fields_list P fields) a c
-  fields_done fields i a c le h = subst (λ (l : List ℕ). Added P b (fields_list P l) a c) (take_all i fields le) h
-
-  pub points_done : (points : List Point) (i : ℕ) (a c : List (List ℕ)) → length points ≤ i → Added P b (all_targets P b (take i points)) a c → Added P b (all_targets P b points) a c
-  points_done points i a c le h = subst (λ (l : List Point). Added P b (all_targets P b l) a c) (take_all i points le) h
-
   of_point : (points : List Point) (p k : ℕ) (pt : Point) → slice_get points p ≡ Some pt → IsOf k (targets P b pt.kind) → IsOf k (all_targets P b points)
   of_point [] p k pt e h = absurd (none_is e)
     where
@@ -170,9 +134,6 @@ inferred_inside [] k e = absurd (false≢true e)
 inferred_inside (x ∷ slots) zero e = omega arith
 inferred_inside (x ∷ slots) (suc k) e = let h = inferred_inside slots k e in omega (arith, h)
 
-pub senders_none : (P : Program) (lists : List (List ℕ)) → length lists ≡ length P.slots → AreSendersBelow P 0 lists
-senders_none P lists long = record { long = long; all = λ b p k pt lt e h i. absurd (omega (arith, lt)) }
-
 -- one body more
 pub senders_more : (P : Program) (n : ℕ) (a c : List (List ℕ)) → AreSendersBelow P n a → Added P n (all_targets P n (points_of (body_at P n))) a c → AreSendersBelow P (n + 1) c
 senders_more P n a c h g = record {
@@ -188,9 +149,6 @@ senders_more P n a c h g = record {
         let long = h.long in
         subst (λ (m : ℕ). IsOf m (slice_index_or c k [])) same
         (g.there k (omega (arith, low, long)) (subst (λ (m : ℕ). IsOf k (all_targets P m (points_of (body_at P m)))) (sym same) (of_point P b (points_of (body_at P b)) p k pt e o)) i)
-
-pub senders_done : (P : Program) (n : ℕ) (lists : List (List ℕ)) → length P.bodies ≤ n → AreSendersBelow P n lists → AreSenders P lists
-senders_done P n lists le h = record { long = h.long; all = λ b p k pt lt e o i. h.all b p k pt (omega (arith, lt, le)) e o i }
 
 -- ---- what is sent goes to a target
 
@@ -346,9 +304,6 @@ over_more f xs i d old list new lt h l =
     let x = slice_index_or xs i d in
     let same : over f (take (i + 1) xs) ≡ over f (take i xs) ++ f x = ap (over f) (take_more xs i d lt) ∙ over_append f (take i xs) (x ∷ []) ∙ ap (λ (m : List Cause). over f (take i xs) ++ m) (append-nil (f x)) in
     h ∙ ap (λ (m : List Cause). m ++ f x) l ∙ append_assoc old (over f (take i xs)) (f x) ∙ ap (λ (m : List Cause). old ++ m) (sym same)
-
-pub over_done : (f : ℕ → List Cause) (xs : List ℕ) (i : ℕ) (old list : List Cause) → length xs ≤ i → list ≡ old ++ over f (take i xs) → list ≡ old ++ over f xs
-over_done f xs i old list le h = h ∙ ap (λ (m : List ℕ). old ++ over f m) (take_all i xs le)
 
 -- a body that isn't there sends nothing
 pub no_body_causes : (P : Program) (b : ℕ) (T : Table) (k : ℕ) (bit : Bit) → length P.bodies ≤ b → body_causes P b T k bit ≡ []

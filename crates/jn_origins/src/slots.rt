@@ -135,7 +135,7 @@ fn add_points(
 }
 
 /// The table of a body; empty where it isn't there.
-pub(crate) fn table_of(tables: &[FlowTable], body: BodyNo) -> &[Option<Env>]
+pub fn table_of(tables: &[FlowTable], body: BodyNo) -> &[Option<Env>]
     ensures { result.now ≡ slice_index_or tables.now body.0 [] }
 {
     match tables.get(body.0 as usize) {

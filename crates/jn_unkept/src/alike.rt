@@ -1,5 +1,5 @@
 //! Values that are made alike.
-ghost use Rattle.std.specs.Prelude.{◌≡◌, ◌++◌, ◌∷◌, [], IfOk, OnOk, MatchOption, None, Some, flat_map};
+ghost use Rattle.std.specs.Prelude.{◌≡◌, ◌++◌, ◌∷◌, [], IfOk, OnOk, None, Some, flat_map};
 ghost use Rattle.std.specs.List.{list_all};
 ghost use Rattle.jn_points.specs.Operands.{operand_if};
 ghost use Rattle.jn_unkept.specs.Alike as spec;

@@ -1,6 +1,5 @@
 //! The last test before of what is made alike.
 ghost use Rattle.std.specs.Prelude.{◌≡◌, IfOk, None, Some};
-ghost use Rattle.jn_points.specs.Lookup.{body_at};
 ghost use Rattle.jn_unkept.specs.Making.{point_of};
 ghost use Rattle.jn_unkept.specs.Unkept as spec;
 

@@ -1,6 +1,6 @@
 use Rattle.std.proofs.Common.{arith}
 use Rattle.jn_sigs.specs.Signature.{slot_quals}
-use Rattle.jn_notes.proofs.Taking.{outside_done}
+use Rattle.jn_notes.proofs.Finding.{outside_done}
 use Rattle.jn_notes.specs.Spoken.{first_outside}
 use Rattle.jn_notes.proofs.changes.first_outside.Goals as goal
 

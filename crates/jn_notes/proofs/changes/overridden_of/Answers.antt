@@ -1,4 +1,4 @@
-use Rattle.std.proofs.Common.{◌≡◌, ◌<◌, ◌≤◌, Some, length, sym, ap, ◌∙◌, arith}
+use Rattle.std.proofs.Common.{◌<◌, ◌≤◌, length, sym, ap, ◌∙◌, arith}
 use Rattle.jn_notes.proofs.Firsts.{next_none, next_found, next_done}
 use Rattle.jn_notes.proofs.Nearby.{near_owner, listed_owner}
 use Rattle.jn_notes.specs.Spoken.{overridden_of}

@@ -1,5 +1,5 @@
 use Rattle.std.proofs.Common.{◌≡◌, drop}
-use Rattle.jn_notes.specs.Found.{first_of}
+use Rattle.jn_note_words.specs.Owned.{first_of}
 use Rattle.jn_notes.specs.Spoken.{overridden_of}
 use Rattle.jn_notes.proofs.Nearby.{listed_owner}
 use Rattle.jn_notes.proofs.changes.overridden_of.Given as goal

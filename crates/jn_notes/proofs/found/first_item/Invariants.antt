@@ -1,5 +1,6 @@
 use Rattle.std.proofs.Common.{◌≡◌, drop}
-use Rattle.jn_notes.specs.Found.{first_of, item_by}
+use Rattle.jn_note_words.specs.Owned.{first_of}
+use Rattle.jn_notes.specs.Found.{item_by}
 use Rattle.jn_notes.proofs.found.first_item.Given as goal
 
 abbrev pub invariant-loop-spot : goal.invariant-loop-spot

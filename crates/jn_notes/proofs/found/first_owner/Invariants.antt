@@ -1,5 +1,6 @@
 use Rattle.std.proofs.Common.{◌≡◌, drop}
-use Rattle.jn_notes.specs.Found.{first_of, owner_by}
+use Rattle.jn_note_words.specs.Owned.{first_of}
+use Rattle.jn_notes.specs.Found.{owner_by}
 use Rattle.jn_notes.proofs.found.first_owner.Given as goal
 
 abbrev pub invariant-loop-spot : goal.invariant-loop-spot

@@ -1,4 +1,4 @@
-use Rattle.std.proofs.Common.{◌≡◌, ◌<◌, ◌≤◌, Some, length, sym, ap, ◌∙◌, arith}
+use Rattle.std.proofs.Common.{◌<◌, ◌≤◌, Some, length, sym, ap, ◌∙◌, arith}
 use Rattle.jn_notes.proofs.Firsts.{next_none, next_found, next_done}
 use Rattle.jn_notes.proofs.Nearby.{near_item, listed_item}
 use Rattle.jn_notes.specs.Asked.{slot_item}

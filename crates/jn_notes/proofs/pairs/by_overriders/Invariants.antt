@@ -1,6 +1,6 @@
 use Rattle.std.proofs.Common.{◌≡◌, Some, drop}
 use Rattle.jn_notes.specs.Asked.{slot_item}
-use Rattle.jn_notes.specs.Found.{first_of}
+use Rattle.jn_note_words.specs.Owned.{first_of}
 use Rattle.jn_notes.proofs.Nearby.{listed_item}
 use Rattle.jn_notes.proofs.pairs.by_overriders.Given as goal
 

@@ -1,6 +1,7 @@
 use Rattle.std.proofs.Common.{◌≡◌, None}
-use Rattle.jn_notes.specs.Asked.{by_number, first_item}
+use Rattle.jn_note_words.specs.Owned.{first_below}
+use Rattle.jn_notes.specs.Asked.{by_number}
 use Rattle.jn_notes.proofs.reads.by_points.Given as goal
 
 abbrev pub invariant-loop-at : goal.invariant-loop-at
-invariant-loop-at l = first_item (by_number l.program l.sig l.sought l.body.0 l.slots) l.at ≡ None
+invariant-loop-at l = first_below (by_number l.program l.sig l.sought l.body.0 l.slots) l.at ≡ None

@@ -1,7 +1,8 @@
 use Rattle.std.proofs.Common.{◌≡◌, [], None}
 use Rattle.std.specs.Prelude.{slice_index_or}
-use Rattle.jn_notes.specs.Asked.{by_body, first_item}
+use Rattle.jn_note_words.specs.Owned.{first_below}
+use Rattle.jn_notes.specs.Asked.{by_body}
 use Rattle.jn_notes.proofs.reads.register_item.Given as goal
 
 abbrev pub invariant-loop-body : goal.invariant-loop-body
-invariant-loop-body l = first_item (λ b. by_body l.program l.sig l.sought b (slice_index_or l.tables b [])) l.body ≡ None
+invariant-loop-body l = first_below (λ b. by_body l.program l.sig l.sought b (slice_index_or l.tables b [])) l.body ≡ None

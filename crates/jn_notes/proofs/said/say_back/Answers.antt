@@ -1,4 +1,4 @@
-use Rattle.std.proofs.Common.{◌-◌, length, take}
+use Rattle.std.proofs.Common.{◌-◌}
 use Rattle.jn_chain.specs.Keys.{kept_of, rest_of}
 use Rattle.jn_notes.specs.declared.said.Said.{Said}
 use Rattle.jn_notes.proofs.Saying.{back_start, back_step, back_done, said_more}

@@ -1,6 +1,6 @@
 use Rattle.std.proofs.Common.{arith}
 use Rattle.jn_sigs.specs.Signature.{slot_quals}
-use Rattle.jn_notes.proofs.Taking.{passed_done}
+use Rattle.jn_notes.proofs.Finding.{passed_done}
 use Rattle.jn_notes.specs.Spoken.{by_passes, pass_args}
 use Rattle.jn_notes.proofs.takers.by_slots.Goals as goal
 
