@@ -296,49 +296,32 @@ import_group ds ss ks n = simp append_assoc
 abbrev pub Through : List TokenKind → List Frame → Type 0
 Through ts st = (end : List Frame) × (run ts st ≡ Some end) × (may_end end ≡ true)
 
-lines_front : (t : TypeDeclaration) (ks : List TokenKind) → Same (Lines ∷ []) (Types ∷ []) (spell_type t ++ ks)
-lines_front (ClassType [] n parent interfaces members) ks = refl
-lines_front (ClassType (NoteMark m ∷ ms) n parent interfaces members) ks = refl
-lines_front (ClassType (PublicMark ∷ ms) n parent interfaces members) ks = refl
-lines_front (ClassType (ProtectedMark ∷ ms) n parent interfaces members) ks = refl
-lines_front (ClassType (PrivateMark ∷ ms) n parent interfaces members) ks = refl
-lines_front (ClassType (StaticMark ∷ ms) n parent interfaces members) ks = refl
-lines_front (ClassType (ConstantMark ∷ ms) n parent interfaces members) ks = refl
-lines_front (ClassType (AbstractMark ∷ ms) n parent interfaces members) ks = refl
-lines_front (InterfaceType [] n parents members) ks = refl
-lines_front (InterfaceType (NoteMark m ∷ ms) n parents members) ks = refl
-lines_front (InterfaceType (PublicMark ∷ ms) n parents members) ks = refl
-lines_front (InterfaceType (ProtectedMark ∷ ms) n parents members) ks = refl
-lines_front (InterfaceType (PrivateMark ∷ ms) n parents members) ks = refl
-lines_front (InterfaceType (StaticMark ∷ ms) n parents members) ks = refl
-lines_front (InterfaceType (ConstantMark ∷ ms) n parents members) ks = refl
-lines_front (InterfaceType (AbstractMark ∷ ms) n parents members) ks = refl
-
-start_front : (t : TypeDeclaration) (ks : List TokenKind) → Same (Start ∷ []) (Types ∷ []) (spell_type t ++ ks)
-start_front (ClassType [] n parent interfaces members) ks = refl
-start_front (ClassType (NoteMark m ∷ ms) n parent interfaces members) ks = refl
-start_front (ClassType (PublicMark ∷ ms) n parent interfaces members) ks = refl
-start_front (ClassType (ProtectedMark ∷ ms) n parent interfaces members) ks = refl
-start_front (ClassType (PrivateMark ∷ ms) n parent interfaces members) ks = refl
-start_front (ClassType (StaticMark ∷ ms) n parent interfaces members) ks = refl
-start_front (ClassType (ConstantMark ∷ ms) n parent interfaces members) ks = refl
-start_front (ClassType (AbstractMark ∷ ms) n parent interfaces members) ks = refl
-start_front (InterfaceType [] n parents members) ks = refl
-start_front (InterfaceType (NoteMark m ∷ ms) n parents members) ks = refl
-start_front (InterfaceType (PublicMark ∷ ms) n parents members) ks = refl
-start_front (InterfaceType (ProtectedMark ∷ ms) n parents members) ks = refl
-start_front (InterfaceType (PrivateMark ∷ ms) n parents members) ks = refl
-start_front (InterfaceType (StaticMark ∷ ms) n parents members) ks = refl
-start_front (InterfaceType (ConstantMark ∷ ms) n parents members) ks = refl
-start_front (InterfaceType (AbstractMark ∷ ms) n parents members) ks = refl
+-- where lines may stand, and where a file starts, a type begins as where types stand
+types_front : (t : TypeDeclaration) (ks : List TokenKind) → Same (Lines ∷ []) (Types ∷ []) (spell_type t ++ ks) × Same (Start ∷ []) (Types ∷ []) (spell_type t ++ ks)
+types_front (ClassType [] n parent interfaces members) ks = (refl, refl)
+types_front (ClassType (NoteMark m ∷ ms) n parent interfaces members) ks = (refl, refl)
+types_front (ClassType (PublicMark ∷ ms) n parent interfaces members) ks = (refl, refl)
+types_front (ClassType (ProtectedMark ∷ ms) n parent interfaces members) ks = (refl, refl)
+types_front (ClassType (PrivateMark ∷ ms) n parent interfaces members) ks = (refl, refl)
+types_front (ClassType (StaticMark ∷ ms) n parent interfaces members) ks = (refl, refl)
+types_front (ClassType (ConstantMark ∷ ms) n parent interfaces members) ks = (refl, refl)
+types_front (ClassType (AbstractMark ∷ ms) n parent interfaces members) ks = (refl, refl)
+types_front (InterfaceType [] n parents members) ks = (refl, refl)
+types_front (InterfaceType (NoteMark m ∷ ms) n parents members) ks = (refl, refl)
+types_front (InterfaceType (PublicMark ∷ ms) n parents members) ks = (refl, refl)
+types_front (InterfaceType (ProtectedMark ∷ ms) n parents members) ks = (refl, refl)
+types_front (InterfaceType (PrivateMark ∷ ms) n parents members) ks = (refl, refl)
+types_front (InterfaceType (StaticMark ∷ ms) n parents members) ks = (refl, refl)
+types_front (InterfaceType (ConstantMark ∷ ms) n parents members) ks = (refl, refl)
+types_front (InterfaceType (AbstractMark ∷ ms) n parents members) ks = (refl, refl)
 
 lines_types : (ts : List TypeDeclaration) → GoodTypes ts → Through (spell_types ts) (Lines ∷ [])
 lines_types [] g = (Lines ∷ [], refl, refl)
-lines_types (t ∷ ts) g = (Types ∷ [], lines_front t (spell_types ts) ∙ types_taken (t ∷ ts) g, refl)
+lines_types (t ∷ ts) g = (Types ∷ [], (types_front t (spell_types ts)).0 ∙ types_taken (t ∷ ts) g, refl)
 
 start_types : (ts : List TypeDeclaration) → GoodTypes ts → Through (spell_types ts) (Start ∷ [])
 start_types [] g = (Start ∷ [], refl, refl)
-start_types (t ∷ ts) g = (Types ∷ [], start_front t (spell_types ts) ∙ types_taken (t ∷ ts) g, refl)
+start_types (t ∷ ts) g = (Types ∷ [], (types_front t (spell_types ts)).1 ∙ types_taken (t ∷ ts) g, refl)
 
 through : (ts us : List TokenKind) (a b : List Frame) → run ts a ≡ run us b → Through us b → Through ts a
 through ts us a b e h = (h.0, e ∙ h.1, h.2)

@@ -1,6 +1,5 @@
 -- What is found at each form that names a member, of what is found in its parts.
-use Rattle.std.proofs.Common.{◌≡◌, ℕ, List, [], ◌∷◌, ◌++◌, Box, Vec, Global, Option, Result, Ok, Err, refl, sym, ap, ◌∙◌, append_assoc}
-use Rattle.std.specs.Prelude.{OnOk}
+use Rattle.std.proofs.Common.{◌≡◌, ℕ, List, [], ◌∷◌, ◌++◌, Box, Vec, Global, Option, sym, ap, ◌∙◌}
 use Rattle.jn_base.specs.declared.place.Span.{Span}
 use Rattle.jn_trees.specs.declared.expression.ElementType.{ElementType}
 use Rattle.jn_trees.specs.declared.expression.Identifier.{Identifier}
@@ -10,27 +9,11 @@ use Rattle.jn_trees.specs.declared.statement.Stmt.TheVariants.{Block}
 use Rattle.jn_trees.specs.declared.expression.Expr.TheVariants.{Call, OwnCall, SuperCall, New, ArrayOf}
 use Rattle.jn_lowering.specs.Scopes.{count}
 use Rattle.jn_places.specs.PlacedView.{placed_statement, placed_statements, placed_view, placed_views}
-use Rattle.jn_places.specs.Placed.{PlacedBlock}
-use Rattle.jn_places.proofs.Rows.{block_placed}
 use Rattle.jn_scopes.proofs.Seen.{seen_call, seen_own_call, seen_super_call, seen_new, seen_array_of}
+use Rattle.jn_refused_notes.proofs.Shown.{one_then, one_then_both, seen_block}
 use Rattle.jn_phase_notes.specs.declared.mentioning.Kind.TheVariants.{Calls, Makes}
 use Rattle.jn_phase_notes.specs.declared.mentioning.Mention.{Mention}
 use Rattle.jn_phase_notes.specs.Mentions.{mention, mentions, mentions_of_all, statement_mentions, statements_mentions}
-
--- what holds of what was done follows from what else does
-pub on_ok : {E T P Q : Type 0} (r : Result T E) → (P → Q) → OnOk r P → OnOk r Q
-on_ok (Ok x) f p = f p
-on_ok (Err e) f p = tt
-
--- one, and then those of a part
-pub one_then : {A : Type 0} (old mid new more whole : List A) (x y : A) → x ≡ y → whole ≡ y ∷ more → mid ≡ old ++ x ∷ [] → new ≡ mid ++ more → new ≡ old ++ whole
-one_then old mid new more whole x y same is g h =
-    h ∙ ap (λ m. m ++ more) g ∙ append_assoc old (x ∷ []) more ∙ ap (λ z. old ++ z ∷ more) same ∙ ap (λ w. old ++ w) (sym is)
-
--- one, and then those of two parts
-pub one_then_both : {A : Type 0} (old mid next new some more whole : List A) (x y : A) → x ≡ y → whole ≡ y ∷ (some ++ more) → mid ≡ old ++ x ∷ [] → next ≡ mid ++ some → new ≡ next ++ more → new ≡ old ++ whole
-one_then_both old mid next new some more whole x y same is g h k =
-    one_then old mid new (some ++ more) whole x y same is g (k ∙ ap (λ m. m ++ more) h ∙ append_assoc mid some more)
 
 module _ (e : Expr) (v : Vec Expr Global) (s : Span) (es : List Expr) (b : es ≡ v.items) where
   pub own_named : (n : Identifier) (k : ℕ) (old mid new : List Mention) → e ≡ OwnCall n v s → k ≡ count (placed_views es) → mid ≡ old ++ mention Calls n n.span k ∷ [] → new ≡ mid ++ mentions_of_all (placed_views es) → new ≡ old ++ mentions (placed_view e)
@@ -48,9 +31,6 @@ module _ (e : Expr) (v : Vec Expr Global) (s : Span) (es : List Expr) (b : es �
 
   pub array_named : (t : Box ElementType Global) (old new : List Mention) → e ≡ ArrayOf t v s → new ≡ old ++ mentions_of_all (placed_views es) → new ≡ old ++ mentions (placed_view e)
   array_named t old new is g = g ∙ ap (λ m. old ++ m) (sym (ap mentions (seen_array_of e t v s es is b)))
-
-pub seen_block : (e : Stmt) (v : Vec Stmt Global) (s : Span) (ss : List Stmt) → e ≡ Block v s → ss ≡ v.items → placed_statement e ≡ PlacedBlock (placed_statements ss) s
-seen_block e v s ss is b = ap placed_statement is ∙ block_placed v s (PlacedBlock (placed_statements v.items) s) refl ∙ ap (λ x. PlacedBlock (placed_statements x) s) (sym b)
 
 pub block_named : (own : Identifier) (parent : Option Identifier) (e : Stmt) (v : Vec Stmt Global) (s : Span) (ss : List Stmt) (old new : List Mention) → e ≡ Block v s → ss ≡ v.items → new ≡ old ++ statements_mentions own parent (placed_statements ss) → new ≡ old ++ statement_mentions own parent (placed_statement e)
 block_named own parent e v s ss old new is b g = g ∙ ap (λ m. old ++ m) (sym (ap (statement_mentions own parent) (seen_block e v s ss is b)))

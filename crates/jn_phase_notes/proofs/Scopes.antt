@@ -9,7 +9,7 @@ use Rattle.jn_trees.specs.declared.statement.Stmt.{Stmt}
 use Rattle.jn_trees.specs.declared.statement.Stmt.TheVariants.{Block, For}
 use Rattle.jn_places.specs.PlacedView.{placed_statement, placed_statements}
 use Rattle.jn_phase_notes.specs.declared.repeated.Second.{Second}
-use Rattle.jn_phase_notes.proofs.Forms.{seen_block}
+use Rattle.jn_refused_notes.proofs.Shown.{seen_block}
 use Rattle.jn_phase_notes.specs.Earlier.{added, all_seconds, names_behind, seconds, standing, with_name, with_names}
 
 -- the names begin with those

@@ -1,7 +1,7 @@
 -- The notes of rows of files that have no trees.
 use Rattle.std.proofs.Common.{◌≡◌, ◌≤◌, ◌<◌, ◌+◌, ℕ, zero, suc, Bool, true, false, List, [], ◌∷◌, ◌++◌, length, take, get_or, Option, Some, None, Result, Ok, Err, refl, sym, ap, ◌∙◌, subst, arith}
 use Rattle.std.specs.Prelude.{IfOk, slice_get}
-use Rattle.std.proofs.lemmas.List.{take_more, take_all}
+use Rattle.std.proofs.lemmas.List.{take_more}
 use Rattle.jn_base.specs.declared.number.FileNo.{FileNo}
 use Rattle.jn_base.specs.declared.place.Row.{Row}
 use Rattle.jn_base.specs.declared.place.Span.{Span}
@@ -13,12 +13,6 @@ use Rattle.jn_front.specs.Files.{files_of_reads}
 use Rattle.jn_note_words.specs.declared.note.Notes.{Notes}
 use Rattle.jn_notes.specs.Noted.{no_notes}
 use Rattle.jn_phase_notes.specs.Stops.{AreStops, AreStopsBy, AreStopsIn, is_syntax, stop_notes}
-
-true_false : true ≡ false → ⊥
-true_false e = cc
-
-false_true : false ≡ true → ⊥
-false_true e = cc
 
 -- ---- the notes of so many rows
 
@@ -48,15 +42,6 @@ pub noted_in : {E : Type 0} (file : SourceFile) (text : List ℕ) (span : Span) 
 noted_in file text span found (Ok notes) same beside is = (found, subst (λ bytes. NoteBeside span.file bytes span found) same beside, is)
 noted_in file text span found (Err e) same beside is = tt
 
--- by whether the row is one of a file's syntax
-pub syntax_stops : {E : Type 0} (b : Bool) (file : Option SourceFile) (span : Span) (r : Result Notes E) → b ≡ true → IfOk r (λ notes. AreStopsIn file span notes) → IfOk r (λ notes. AreStopsBy b file span notes)
-syntax_stops true file span r is h = h
-syntax_stops false file span r is h = absurd (false_true is)
-
-pub other_stops : {E : Type 0} (b : Bool) (file : Option SourceFile) (span : Span) (r : Result Notes E) → b ≡ false → IfOk r (λ notes. notes ≡ no_notes) → IfOk r (λ notes. AreStopsBy b file span notes)
-other_stops true file span r is h = absurd (true_false is)
-other_stops false file span r is h = h
-
 module _ (files : List SourceFile) where
   abbrev pub IsStop : Row → Notes → Type 0
   IsStop row notes = AreStopsBy (is_syntax row.code) (slice_get files row.span.file.0) row.span notes
@@ -72,13 +57,6 @@ module _ (files : List SourceFile) where
       subst (AreStops files (take (i + 1) rows)) (sym h)
       (subst (λ (rs : List Row). AreStops files rs (old ++ n ∷ [])) (sym (take_more rows i d lt))
       (both_more (take i rows) (get_or rows i d) old n e g))
-
-  pub rows_done : (rows : List Row) (i : ℕ) (list : List Notes) → length rows ≤ i → AreStops files (take i rows) list → AreStops files rows list
-  rows_done rows i list le h = subst (λ (rs : List Row). AreStops files rs list) (take_all i rows le) h
-
-  pub none_rows : (rows : List Row) (list : List Notes) → list ≡ [] → AreStops files (take 0 rows) list
-  none_rows [] list e = subst (AreStops files []) (sym e) tt
-  none_rows (row ∷ rows) list e = subst (AreStops files []) (sym e) tt
 
 -- ---- one list of notes
 

@@ -1,5 +1,6 @@
 -- The other declaration of which a row T1, T4, T5, T6 or T7 speaks: its name, where it is declared.
-use Rattle.std.specs.Prelude.{ℕ, suc, Bool, true, false, cond, not, ◌&&◌, ◌||◌, eqb, List, [], ◌∷◌, length, find, Option, Some, None, option_map, option_and_then}
+use Rattle.std.specs.Prelude.{ℕ, suc, Bool, cond, not, ◌&&◌, ◌||◌, eqb, List, [], ◌∷◌, length, find, Option, Some, None, option_map, option_and_then}
+use Rattle.std.specs.Option.{option_or}
 use Rattle.jn_base.specs.declared.code.Code.{Code}
 use Rattle.jn_base.specs.declared.code.Code.TheVariants.{T1, T4, T5, T6, T7}
 use Rattle.jn_base.specs.declared.place.Span.{Span}
@@ -17,16 +18,7 @@ use Rattle.jn_heads.specs.Heads.{no_span}
 use Rattle.jn_declaration_rules.specs.Rows.{agrees, hides_well, over_static, same_field, same_method}
 use Rattle.jn_classtable.specs.Rows.{same_class_name, same_param_name}
 use Rattle.jn_notes.specs.Asked.{same_span}
-
--- the first where there is one, else the second
-abbrev pub or_other : Option Identifier → Option Identifier → Option Identifier
-or_other None y = y
-or_other (Some x) y = Some x
-
--- what the first of these items gives that gives one
-abbrev pub first_given : {A : Type 0} → (A → Option Identifier) → List A → Option Identifier
-first_given give [] = None
-first_given give (x ∷ xs) = or_other (give x) (first_given give xs)
+use Rattle.jn_note_words.specs.Owned.{first_of}
 
 -- the first item that passes, numbered from i on
 abbrev pub first_passing : {A : Type 0} → (ℕ → A → Bool) → ℕ → List A → Option A
@@ -66,7 +58,7 @@ module _ (span : Span) where
 
   -- the same of the parameter that is declared there
   abbrev pub first_param_of : List ClassHead → Option Identifier
-  first_param_of hs = first_given (λ (h : ClassHead). first_given first_param h.methods) hs
+  first_param_of hs = first_of (λ (h : ClassHead). first_of first_param h.methods) hs
 
 module _ (P : Program) where
   -- T5: method m, which is x, doesn't agree with method k, which is y, or hides it badly
@@ -114,7 +106,7 @@ elsewhere span (Some x) = cond (same_span x.span span || same_span x.span no_spa
 module _ (hs : List ClassHead) (P : Program) (span : Span) where
   -- T1: of a class, a field or a parameter
   abbrev pub first_named : Option Identifier
-  first_named = or_other (first_class P span) (or_other (first_field P span) (first_param_of span hs))
+  first_named = option_or (first_class P span) (option_or (first_field P span) (first_param_of span hs))
 
   -- by the row's code; other rows speak of none
   abbrev pub other_by : Code → Option Identifier

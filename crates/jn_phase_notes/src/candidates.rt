@@ -6,8 +6,8 @@ ghost use Rattle.jn_notes.specs.Asked as asked;
 ghost use Rattle.jn_phase_notes.specs.Possible as spec;
 
 use crate::mentioning::{Kind, Mention};
-use crate::places::same_span;
 use jn_base::{ClassNo, FileNo, NameNo, Seq, Span};
+use jn_notes::reads::same_span;
 use jn_points::lookup::class_at;
 use jn_points::{Class, Field, Method, Program};
 use std::alloc::{AllocError, Global};

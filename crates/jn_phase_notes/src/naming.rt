@@ -1,6 +1,6 @@
 //! Members where the statements, members and types of files name them.
 ghost use Rattle.std.specs.Prelude.{◌≡◌, ◌++◌, flat_map, IfOk, OnOk, map};
-ghost use Rattle.jn_places.specs.PlacedView.{placed_body, placed_declarator, placed_declarators, placed_file, placed_init, placed_local, placed_member, placed_members, placed_optional, placed_statement, placed_statements, placed_type};
+ghost use Rattle.jn_places.specs.PlacedView.{placed_body, placed_declarators, placed_file, placed_init, placed_local, placed_member, placed_members, placed_optional, placed_statement, placed_statements, placed_type};
 ghost use Rattle.jn_phase_notes.specs.Mentions as spec;
 
 use crate::mentioning::{Kind, Mention, all, expression, put_mention};

@@ -3,19 +3,15 @@ ghost use Rattle.std.specs.Prelude.{◌≡◌, ◌<◌, length, find, option_map
 ghost use Rattle.jn_declaration_rules.specs.Rows.{same_field, same_method};
 ghost use Rattle.jn_classtable.specs.Rows.{same_class_name, same_param_name};
 ghost use Rattle.jn_notes.specs.Asked as asked;
+ghost use Rattle.jn_note_words.specs.Owned.{first_of};
 ghost use Rattle.jn_phase_notes.specs.Others as spec;
 
 use jn_base::Span;
 use jn_heads::head::{ClassHead, MethodHead, ParamHead};
+use jn_notes::reads::same_span;
 use jn_points::lookup::{class_at, field_at, method_at};
 use jn_points::{Class, Field, Method, Program};
 use jn_trees::Identifier;
-
-pub(crate) fn same_span(left: Span, right: Span) -> bool
-    ensures { result ≡ asked.same_span left right }
-{
-    left.file.0 == right.file.0 && left.from == right.from && left.to == right.to
-}
 
 fn class_name(class: &Class) -> Identifier
     ensures { result ≡ spec.class_name class.now }
@@ -186,7 +182,7 @@ fn first_param(method: &MethodHead, span: Span) -> Option<Identifier>
 }
 
 fn first_param_among(methods: &[MethodHead], span: Span) -> Option<Identifier>
-    ensures { result ≡ spec.first_given (spec.first_param span) methods.now }
+    ensures { result ≡ first_of (spec.first_param span) methods.now }
 {
     for method in methods {
         let found = first_param(method, span);

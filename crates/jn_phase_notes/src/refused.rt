@@ -1,12 +1,12 @@
 //! Which of its causes a row J5 has.
-ghost use Rattle.std.specs.Prelude.{◌≡◌, codes, IfOk};
+ghost use Rattle.std.specs.Prelude.{◌≡◌, IfOk};
 ghost use Rattle.jn_phase_notes.specs.Told as spec;
 ghost use Rattle.jn_phase_notes.specs.Stops.{one_note};
 
-use crate::places::same_span;
 use crate::stops::one_note;
 use jn_base::{OutOfMemory, Seq, Span};
 use jn_note_words::{Note, Notes};
+use jn_notes::reads::same_span;
 use jn_refused_notes::{Refusal, cause_words};
 use std::alloc::{AllocError, Global};
 

@@ -1,6 +1,6 @@
 //! Names that are declared where a local or a parameter of the name is in scope (JLS 6.4).
 ghost use Rattle.std.specs.Prelude.{◌≡◌, ◌++◌, flat_map, map, IfOk, OnOk, Some};
-ghost use Rattle.jn_places.specs.PlacedView.{placed_body, placed_declarators, placed_file, placed_init, placed_local, placed_member, placed_members, placed_parameters, placed_statement, placed_statements, placed_type};
+ghost use Rattle.jn_places.specs.PlacedView.{placed_declarators, placed_file, placed_init, placed_local, placed_member, placed_members, placed_parameters, placed_statement, placed_statements, placed_type};
 ghost use Rattle.jn_phase_notes.specs.Earlier as spec;
 
 use crate::scoped::Scoped;

@@ -1,5 +1,5 @@
 //! What a row J2 may mean, in words.
-ghost use Rattle.std.specs.Prelude.{◌≡◌, ◌++◌, ◌-◌, codes, decimal, map, take, IfOk, OnOk};
+ghost use Rattle.std.specs.Prelude.{◌≡◌, ◌++◌, ◌-◌, codes, decimal, map, take, IfOk};
 ghost use Rattle.jn_notes.specs.Noted.{most_shown};
 ghost use Rattle.jn_phase_notes.specs.Possible as spec;
 

@@ -1,7 +1,7 @@
 //! The notes of rows of files that have trees: beside a row of the class table or a second local, the other declaration of which it
 //! speaks; beside a member that isn't there, those of its name; beside a form that isn't of the subset, its cause; beside a type
 //! that doesn't fit, it and the one that is wanted.
-ghost use Rattle.std.specs.Prelude.{◌≡◌, ◌<◌, ◌^◌, ◌++◌, length, map, option_map, IfOk, IfSome};
+ghost use Rattle.std.specs.Prelude.{◌≡◌, ◌<◌, ◌++◌, map, option_map, IfOk};
 ghost use Rattle.jn_places.specs.PlacedView.{placed_file};
 ghost use Rattle.jn_heads.specs.Extract as extract;
 ghost use Rattle.jn_classtable.specs.Built.{SmallTable};
@@ -15,7 +15,7 @@ use crate::candidates::mention_at;
 use crate::members::{clashing, hidden, lacking};
 use crate::mentioning::Mention;
 use crate::naming::mentions_of;
-use crate::places::{first_class, first_field, first_method, first_param_of, same_span};
+use crate::places::{first_class, first_field, first_method, first_param_of};
 use crate::refused::cause_notes;
 use crate::repeated::{Second, seconds_of};
 use crate::saying::mention_notes;
@@ -31,6 +31,7 @@ use jn_heads::head::ClassHead;
 use jn_index::index::Index;
 use jn_index::indexed::IndexedProgram;
 use jn_note_words::{Note, Notes};
+use jn_notes::reads::same_span;
 use jn_points::Program;
 use jn_refused_notes::{Refusal, refusals_of};
 use jn_trees::{FileTree, Identifier, Names};

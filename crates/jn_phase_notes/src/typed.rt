@@ -7,10 +7,10 @@ ghost use Rattle.jn_points.specs.Members.{some_of};
 ghost use Rattle.jn_type_notes.specs.Mismatched.{is_of_types, is_type_row};
 ghost use Rattle.jn_type_notes.specs.Wording.{type_notes};
 
-use crate::places::same_span;
 use crate::stops::one_note;
 use jn_base::{Code, OutOfMemory, Row, Seq, Span};
 use jn_note_words::{Note, Notes};
+use jn_notes::reads::same_span;
 use jn_trees::{FileTree, Names};
 use jn_type_notes::type_notes;
 use std::alloc::{AllocError, Global};

@@ -1,9 +1,9 @@
 //! The shape of an expression as text, with each node in parentheses.
 use crate::outcome::LIMIT;
 use crate::page::{Page, Shown};
-use crate::places::expression_span;
 use jn_base::{NameNo, OutOfMemory};
 use jn_parse_expr::parse_expr;
+use jn_scopes::forms::span_of;
 use jn_trees::{
     AssignOperator, Base, BinaryOperator, Expr, Identifier, Literal, Names, Step, Token,
     UnaryOperator,
@@ -81,7 +81,7 @@ pub fn write_list(page: &mut Page, names: &Names, expressions: &[Expr]) {
 
 #[cycle(expressions)]
 pub fn write_expression(page: &mut Page, names: &Names, expression: &Expr) {
-    page.place(expression_span(expression));
+    page.place(span_of(expression));
     match expression {
         Expr::Literal { literal, .. } => write_literal(page, names, *literal),
         Expr::Name { name } => write_name(page, names, name.name),

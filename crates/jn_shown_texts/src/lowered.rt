@@ -1,6 +1,4 @@
 //! The points of an expression that stands in a program without members, or its rows.
-ghost use Rattle.std.specs.Prelude.{◌≡◌, IfOk};
-
 use crate::outcome::LIMIT;
 use jn_base::{ClassNo, OutOfMemory, Row, Seq};
 use jn_index::indexed::IndexedProgram;

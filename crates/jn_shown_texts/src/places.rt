@@ -1,31 +1,6 @@
 //! The bytes that a node takes.
 use jn_base::Span;
-use jn_trees::{Expr, Member, Stmt, TypeTree};
-
-pub fn expression_span(expression: &Expr) -> Span {
-    match expression {
-        Expr::Name { name } => name.span,
-        Expr::Literal { span, .. } => *span,
-        Expr::This { span, .. } => *span,
-        Expr::Paren { span, .. } => *span,
-        Expr::Field { span, .. } => *span,
-        Expr::Call { span, .. } => *span,
-        Expr::OwnCall { span, .. } => *span,
-        Expr::SuperCall { span, .. } => *span,
-        Expr::Index { span, .. } => *span,
-        Expr::New { span, .. } => *span,
-        Expr::NewArray { span, .. } => *span,
-        Expr::ArrayOf { span, .. } => *span,
-        Expr::Postfix { span, .. } => *span,
-        Expr::Prefix { span, .. } => *span,
-        Expr::Unary { span, .. } => *span,
-        Expr::Cast { span, .. } => *span,
-        Expr::Binary { span, .. } => *span,
-        Expr::InstanceOf { span, .. } => *span,
-        Expr::Conditional { span, .. } => *span,
-        Expr::Assign { span, .. } => *span,
-    }
-}
+use jn_trees::{Member, Stmt, TypeTree};
 
 pub fn statement_span(statement: &Stmt) -> Span {
     match statement {

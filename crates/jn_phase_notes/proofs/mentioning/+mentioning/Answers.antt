@@ -1,4 +1,5 @@
-use Rattle.jn_phase_notes.proofs.Forms.{array_named, call_named, new_named, on_ok, own_named, super_named}
+use Rattle.jn_refused_notes.proofs.Shown.{on_ok}
+use Rattle.jn_phase_notes.proofs.Forms.{array_named, call_named, new_named, own_named, super_named}
 use Rattle.jn_phase_notes.proofs.mentioning.+mentioning.Goals as goal
 
 pub expression-returns-in_ok-expression-in-Call : goal.expression-returns-in_ok-expression-in-Call

@@ -1,4 +1,5 @@
-use Rattle.jn_phase_notes.proofs.Forms.{block_named, on_ok}
+use Rattle.jn_refused_notes.proofs.Shown.{on_ok}
+use Rattle.jn_phase_notes.proofs.Forms.{block_named}
 use Rattle.jn_phase_notes.proofs.naming.+naming.Goals as goal
 
 pub statement-returns-in-Block : goal.statement-returns-in-Block

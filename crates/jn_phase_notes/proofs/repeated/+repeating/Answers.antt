@@ -1,7 +1,7 @@
 use Rattle.std.proofs.Common.{◌<◌, ◌∙◌, length, arith}
 use Rattle.jn_places.specs.PlacedView.{placed_init, placed_statement}
 use Rattle.jn_phase_notes.specs.Earlier.{init_names, names_behind}
-use Rattle.jn_phase_notes.proofs.Forms.{on_ok}
+use Rattle.jn_refused_notes.proofs.Shown.{on_ok}
 use Rattle.jn_phase_notes.proofs.Scopes.{back_again, begins_more, begins_same, begins_self, block_seconds, for_scope, next_seconds}
 use Rattle.jn_phase_notes.proofs.repeated.+repeating.Goals as goal
 
