@@ -1,5 +1,5 @@
 -- Bits by their places: facts and own fields that are known or assigned.
-use Rattle.std.proofs.Common.{◌≡◌, inl, inr, ℕ, zero, suc, ◌+◌, ◌<◌, Bool, true, false, ◌&&◌, ◌||◌, cond, List, [], ◌∷◌, length, drop, map, get_or, refl, sym, ap, ◌∙◌, subst, arith, length-set}
+use Rattle.std.proofs.Common.{◌≡◌, inl, inr, ℕ, zero, suc, ◌+◌, ◌<◌, Bool, true, false, ◌&&◌, ◌||◌, cond, List, [], ◌∷◌, length, map, get_or, refl, sym, ap, ◌∙◌, subst, arith, length-set}
 use Rattle.std.specs.Prelude.{eqb, replicate, slice_index_or, slice_set}
 use Rattle.std.specs.Int.{w32, to_le_bytes}
 use Rattle.std.proofs.lemmas.Bool.{eqb-true}
@@ -231,19 +231,6 @@ none_known keys sorted places bits e none x m = ap (λ bs. is_on (is_key x.reg x
 
 pub none_assigned : (own places : List ℕ) (bits : List Bool) → bits ≡ no_bits own → places ≡ [] → (x : ℕ) → IsIn x own → is_on (λ k. eqb k x) own bits ≡ among_fields x (items_at 0 own places)
 none_assigned own places bits e none x m = ap (λ bs. is_on (λ k. eqb k x) own bs) e ∙ none_on_start (λ k. eqb k x) own ∙ sym (ap (λ ps. among_fields x (items_at 0 own ps)) none)
-
--- one place further in the list
-pub place_here : (key : Key) (keys : List Key) (at : ℕ) (t : Bool) → at < length keys → place_of key keys ≡ at + place_of key (drop at keys) → t ≡ is_key key.reg key.field (get_or keys at key) → (t ≡ true → place_of key keys ≡ at) × (t ≡ false → place_of key keys ≡ at + 1 + place_of key (drop (at + 1) keys))
-place_here key keys at t lt h e = by (is_key key.reg key.field (get_or keys at key)) refl (h ∙ ap (λ ks. at + place_of key ks) (opened at keys lt))
-  where
-    opened : (n : ℕ) (ks : List Key) → n < length ks → drop n ks ≡ get_or ks n key ∷ drop (n + 1) ks
-    opened n [] lt = absurd (omega (arith, lt))
-    opened zero (k ∷ ks) lt = refl
-    opened (suc n) (k ∷ ks) lt = let s : suc (n + 1) ≡ suc n + 1 = omega arith in opened n ks (omega (arith, lt)) ∙ ap (λ j. get_or ks n key ∷ drop j (k ∷ ks)) s
-
-    by : (b : Bool) → is_key key.reg key.field (get_or keys at key) ≡ b → place_of key keys ≡ at + cond (is_key key.reg key.field (get_or keys at key)) 0 (suc (place_of key (drop (at + 1) keys))) → (t ≡ true → place_of key keys ≡ at) × (t ≡ false → place_of key keys ≡ at + 1 + place_of key (drop (at + 1) keys))
-    by true p g = (λ u. let z = g ∙ ap (λ c. at + cond c 0 (suc (place_of key (drop (at + 1) keys)))) p in omega (arith, z), λ u. let z : true ≡ false = sym p ∙ sym e ∙ u in cc)
-    by false p g = (λ u. let z : true ≡ false = sym u ∙ e ∙ p in cc, λ u. let z = g ∙ ap (λ c. at + cond c 0 (suc (place_of key (drop (at + 1) keys)))) p in omega (arith, z))
 
 -- what is chosen among texts is chosen among keys and fields
 pub rise_facts : (sorted ks : List Key) (texts : List (List ℕ)) (is js : List ℕ) → sorted ≡ ks → texts ≡ map key_bytes ks → js ≡ is → Rise 0 (length texts) is → Rise 0 (length sorted) js

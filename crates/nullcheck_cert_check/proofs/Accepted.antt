@@ -23,7 +23,8 @@ none_sorted : IsStrictlySortedBy row_cmp []
 unfolding IsStrictlySortedBy
 none_sorted = tt
 
-none_ordered : IsOrderOf [] []
+-- no rows are in order
+pub none_ordered : IsOrderOf [] []
 none_ordered = record { sorted = none_sorted; same = λ row. (λ h. h, λ h. h) }
 
 rules_give : (P : Program) → BreaksNone P → RulesGive P []

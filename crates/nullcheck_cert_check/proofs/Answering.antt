@@ -172,11 +172,11 @@ are_inputs infer held name names old new read reads from = record { named = from
 
 -- ---- more files than there may be
 
-files_named : List (List ℕ) → List SourceFile
+pub files_named : List (List ℕ) → List SourceFile
 files_named [] = []
 files_named (name ∷ names) = record { name = name; bytes = [] } ∷ files_named names
 
-named_are : (names : List (List ℕ)) → names_of (files_named names) ≡ names
+pub named_are : (names : List (List ℕ)) → names_of (files_named names) ≡ names
 unfolding files_named
 named_are [] = refl
 named_are (name ∷ names) = ap (λ ns. name ∷ ns) (named_are names)
@@ -185,7 +185,7 @@ named_are (name ∷ names) = ap (λ ns. name ∷ ns) (named_are names)
 refusal_told : (infer : Infer) (name : List ℕ) (files : List SourceFile) (status : Status) (bytes : List ℕ) → IsRefusalOf infer files status bytes → IsToldOf infer name [] files status bytes
 refusal_told infer name files status bytes r = record { verdict = Refused r.rows; is = r.are; ends = r.ends; shows = r.shows }
 
-abbrev IsMany : List (List ℕ) → Result Output NoMemory → Type 0
+abbrev pub IsMany : List (List ℕ) → Result Output NoMemory → Type 0
 IsMany names made = IfOk made (λ o. (infer : Infer) (files : List SourceFile) → names_of files ≡ names → IsRefusalOf infer files o.status o.bytes)
 
 many_told : (infer : Infer) (name : List ℕ) (names : List (List ℕ)) (made : Result Output NoMemory) → IsMany names made → IfMade made (λ status bytes. Written status × IsToldOf infer name [] (files_named names) status bytes) (Unit {0})

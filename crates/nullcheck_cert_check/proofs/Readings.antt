@@ -81,9 +81,6 @@ starts_inputs held name names old mid new read c s = record {
   named = ap (λ ns. name ∷ ns) s.named;
 }
 
-pub starts_nothing : (names : List (List ℕ)) (old new : List Given) → new ≡ old → StartsOnly names old new
-starts_nothing names old new same = starts_none names old new same
-
 -- ---- faults
 
 pub cannot_read : (A B : Type 0) (fail : Fail Failed) → CannotRead {A = A} (Err fail) → CannotRead {A = B} (Err fail)

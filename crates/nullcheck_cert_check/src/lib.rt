@@ -14,4 +14,5 @@ pub mod top;
 pub mod verdict;
 
 pub use jn_command::Status;
+pub use outputs::{MOST_FILES, number_output};
 pub use top::check;

@@ -22,7 +22,7 @@ use jn_reporters::{Plain, Reporter};
 use std::alloc::{AllocError, Global};
 
 /// The greatest number of files.
-pub(crate) const MOST_FILES: usize = 64;
+pub const MOST_FILES: usize = 64;
 
 fn rows_of(alloc: Global, rows: &[Row]) -> Result<Report, AllocError>
     ensures { IfOk result (λ report. report ≡ RefusedReport rows.now) }
@@ -109,7 +109,10 @@ pub(crate) fn verdict_output(
 }
 
 /// The output of more files than there may be: one row at the first that is too many.
-pub(crate) fn number_output(alloc: Global, names: &[String]) -> Result<Output, OutOfMemory>
+///
+/// # Errors
+/// No memory was found.
+pub fn number_output(alloc: Global, names: &[String]) -> Result<Output, OutOfMemory>
     requires many { most_files < length names.now }
     ensures { IfOk result (λ o. (infer : Infer) (files : List FileOf)
         → names_of files ≡ map string_bytes names.now → IsRefusalOf infer files o.status o.bytes) }

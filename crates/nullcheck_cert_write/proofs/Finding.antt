@@ -1,6 +1,6 @@
 -- What is found of files that were read.
-use Rattle.std.proofs.Common.{◌≡◌, ℕ, List, [], Option, Some, Result, Ok, Err, refl, sym, subst}
-use Rattle.std.specs.Prelude.{IfOk, IsSome}
+use Rattle.std.proofs.Common.{ℕ, List, [], Some, Result, Ok, Err, refl, sym, subst}
+use Rattle.std.specs.Prelude.{IfOk}
 use Rattle.jn_base.specs.declared.infer.Infer.{Infer}
 use Rattle.jn_base.specs.declared.refusal.OutOfMemory.{OutOfMemory}
 use Rattle.jn_base.specs.declared.place.Row.{Row}
@@ -11,7 +11,8 @@ use Rattle.jn_front.specs.declared.source.SourceRead.{SourceRead}
 use Rattle.jn_front.specs.Files.{AreReads, files_of_reads}
 use Rattle.jn_command.specs.Stands.{StandIn}
 use Rattle.jn_command.proofs.Standing.{all_stand}
-use Rattle.jn_phases.specs.Phases.{IsTypedOr, TypedProgramOf}
+use Rattle.jn_phases.specs.Phases.{TypedProgramOf}
+use Rattle.nullcheck_cert_check.proofs.Certified.{IsTypedAll, IsWhole}
 use Rattle.nullcheck_cert_write.specs.declared.made.CertMade.{CertMade}
 use Rattle.nullcheck_cert_write.specs.declared.made.CertMade.TheVariants.{Refused, Rejected, TooLarge, Made}
 use Rattle.nullcheck_cert_write.specs.Making.{IsMadeOf}
@@ -28,18 +29,7 @@ solved infer files names P typed (Ok TooLarge) gives = record { P = P; of_files 
 solved infer files names P typed (Ok (Made cert)) gives = record { P = P; of_files = record { names = names; typed = typed }; gives = gives }
 solved infer files names P typed (Err e) gives = tt
 
--- what was read are the files, where they have a program
-abbrev pub IsWhole : List SourceRead → Option Program → Type 0
-IsWhole reads base = IsSome base → (files : List SourceFile) → AreReads reads files → files_of_reads reads ≡ files
-
-abbrev pub IsTypedAll : Infer → List SourceRead → List (List ℕ) → List PlacedFile → List Row → Option Program → Type 0
-IsTypedAll infer reads names trees rows base = (files : List SourceFile) → AreReads reads files → IsTypedOr infer files names trees rows base
-
 module _ (infer : Infer) (reads : List SourceRead) (names : List (List ℕ)) (trees : List PlacedFile) (rows : List Row) (P : Program) (some : (files : List SourceFile) × AreReads reads files) (typed : IsTypedAll infer reads names trees rows (Some P)) (whole : IsWhole reads (Some P)) where
-  -- what was read has the program
-  pub program_read : TypedProgramOf infer (files_of_reads reads) names P
-  program_read = subst (λ fs. TypedProgramOf infer fs names P) (sym (whole refl some.0 some.1)) (typed some.0 some.1).1.0
-
   -- what is found of what was read is found of the files
   pub found_all : (found : Found) → IfOk found (IsVerdict infer (files_of_reads reads)) → IfOk found (λ v. (files : List SourceFile) → AreReads reads files → IsVerdict infer files v)
   found_all (Ok v) is = λ files are. subst (λ fs. IsVerdict infer fs v) (whole refl files are) is

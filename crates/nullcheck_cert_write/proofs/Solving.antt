@@ -2,7 +2,6 @@
 use Rattle.std.proofs.Common.{◌≡◌, ℕ, zero, suc, ◌+◌, ◌<◌, ◌≤◌, List, [], ◌∷◌, ◌++◌, length, Option, inl, inr, refl, sym, ap, ◌∙◌, subst, arith, length-append}
 use Rattle.std.specs.Prelude.{◌⊎◌, Contains, slice_index_or}
 use Rattle.std.proofs.lemmas.Bool.{cases_lt}
-use Rattle.std.specs.List.Sorted.{IsStrictlySortedBy}
 use Rattle.jn_base.specs.declared.place.Row.{Row}
 use Rattle.jn_quals.specs.Qualifier.{Qualifier}
 use Rattle.jn_points.specs.declared.program.Program.{Program}
@@ -13,8 +12,8 @@ use Rattle.jn_transfer.specs.Least.{IsLeastTable}
 use Rattle.jn_transfer.specs.Rules.{Breaks}
 use Rattle.jn_inference_law.specs.Solution.{IsLeastSignature}
 use Rattle.jn_system.specs.Rows.{AreBroken}
-use Rattle.jn_diag.specs.Order.{row_cmp}
 use Rattle.jn_cert_exists_law.proofs.Written.{length-within}
+use Rattle.nullcheck_cert_check.proofs.Accepted.{none_ordered}
 use Rattle.nullcheck_cert_write.specs.Making.{AreLeastTables, AreRuleRows}
 
 -- a least signature has a qualifier for each slot
@@ -80,9 +79,5 @@ all_tables P s n tables end first = record {
 
 -- ---- no rows
 
-none_sorted : IsStrictlySortedBy row_cmp []
-unfolding IsStrictlySortedBy
-none_sorted = tt
-
 pub no_rows : (P : Program) (s : List Qualifier) → IsLeastSignature P s → Breaks P s [] → AreRuleRows P []
-no_rows P s least unbroken = record { signature = s; least = least; broken = record { all = []; broken = unbroken; ordered = record { sorted = none_sorted; same = λ row. (λ h. h, λ h. h) } } }
+no_rows P s least unbroken = record { signature = s; least = least; broken = record { all = []; broken = unbroken; ordered = none_ordered } }

@@ -1,26 +1,25 @@
 -- What is told answers the words.
-use Rattle.std.proofs.Common.{◌≡◌, ℕ, ◌<◌, inl, inr, List, [], ◌∷◌, ◌++◌, length, Option, Some, None, Result, Ok as MadeOk, Err, refl, sym, ap, ◌∙◌, subst, arith}
+use Rattle.std.proofs.Common.{◌≡◌, ℕ, ◌<◌, inl, inr, List, [], ◌∷◌, ◌++◌, length, Option, Some, None, Result, Ok as MadeOk, Err, refl, sym, ◌∙◌, subst, arith}
 use Rattle.std.specs.Prelude.{IfOk, codes}
 use Rattle.jn_base.specs.declared.infer.Infer.{Infer}
 use Rattle.jn_base.specs.declared.refusal.OutOfMemory.{OutOfMemory as NoMemory}
 use Rattle.jn_base.specs.declared.place.Row.{Row}
-use Rattle.jn_outside.specs.Causes.{Rose}
 use Rattle.jn_outside.specs.Sink.{Appends, AppendsPrefix}
 use Rattle.jn_front.specs.declared.source.SourceFile.{SourceFile}
 use Rattle.jn_front.specs.declared.source.SourceRead.{SourceRead}
-use Rattle.jn_front.specs.Files.{AreReads, most_files, names_of}
+use Rattle.jn_front.specs.Files.{AreReads, most_files}
 use Rattle.jn_reporters.specs.Reports.{plain_shown}
 use Rattle.jn_command.specs.declared.output.Output.{Output}
 use Rattle.jn_command.specs.declared.report.Report.TheVariants.{Refused as RefusedReport, Checked}
 use Rattle.jn_command.specs.declared.status.Status.{Status}
-use Rattle.jn_command.specs.declared.status.Status.TheVariants.{Rejected as RejectedStatus, Refused as RefusedStatus, ReadFault, WriteFault, OutOfMemory, Usage}
+use Rattle.jn_command.specs.declared.status.Status.TheVariants.{Rejected as RejectedStatus, OutOfMemory, Usage}
 use Rattle.jn_command.specs.Answer.{Finished, Reading}
-use Rattle.jn_command.specs.Outputs.{IfMade}
 use Rattle.jn_command.specs.Reports.{status_of}
 use Rattle.jn_command.specs.Shown.{shown}
 use Rattle.nullcheck_cert_write.specs.declared.made.CertMade.{CertMade}
 use Rattle.nullcheck_cert_write.specs.declared.made.CertMade.TheVariants.{Refused, Rejected, TooLarge, Made}
 use Rattle.nullcheck_cert_check.specs.Told.{IsRefusalOf}
+use Rattle.nullcheck_cert_check.proofs.Answering.{Ends, IsMany, files_named, named_are}
 use Rattle.jn_cli.specs.Cert.{Command, command, usage_line}
 use Rattle.nullcheck_cert_write.specs.Answer.{Answers, AnswersFiles, IsTold, Outcome, Tells}
 use Rattle.nullcheck_cert_write.specs.Verdicts.{IsVerdict}
@@ -37,7 +36,7 @@ module _ (infer : Infer) (name : List ℕ) (files : List SourceFile) (o : Outcom
   finished made status bytes kb kn result is t s (inl p) = subst (AnswersFiles infer name files o) (sym p.0) (whole made status bytes is t s (record { made = made; is = is; bytes = bytes; told = t; written = p.1; stored = s }))
   finished made status bytes kb kn result is t s (inr p) = subst (AnswersFiles infer name files o) (sym p.0) (inl (record { made = made; is = is; status = status; bytes = bytes; told = t; written = p.1; stored = s }))
 
-  pub by_made : (made : CertMade) (kb kn : ℕ) (result : Status) (output : Result Output NoMemory) → IsVerdict infer files made → IfOk output (λ r. IsTold name files made r.status r.bytes) → o.now ≡ o.before → IfMade output (λ status bytes. Finished o.old o.new bytes status kb kn result) ((result ≡ OutOfMemory) × (o.new ≡ o.old) × (kn ≡ kb)) → AnswersFiles infer name files o result
+  pub by_made : (made : CertMade) (kb kn : ℕ) (result : Status) (output : Result Output NoMemory) → IsVerdict infer files made → IfOk output (λ r. IsTold name files made r.status r.bytes) → o.now ≡ o.before → Ends o.old o.new kb kn result output → AnswersFiles infer name files o result
   by_made made kb kn result (MadeOk r) is t s f = finished made r.status r.bytes kb kn result is t s f
   by_made made kb kn result (Err e) is t s f = subst (AnswersFiles infer name files o) (sym f.0) (f.1, s)
 
@@ -61,57 +60,19 @@ told_large name files (Err e) status bytes = tt
 
 -- ---- more files than there may be
 
-pub files_named : List (List ℕ) → List SourceFile
-files_named [] = []
-files_named (name ∷ names) = record { name = name; bytes = [] } ∷ files_named names
-
-named_are : (names : List (List ℕ)) → names_of (files_named names) ≡ names
-unfolding files_named
-named_are [] = refl
-named_are (name ∷ names) = ap (λ ns. name ∷ ns) (named_are names)
-
-abbrev IsMany : List (List ℕ) → Result Output NoMemory → Type 0
-IsMany names output = IfOk output (λ o. (infer : Infer) (files : List SourceFile) → names_of files ≡ names → IsRefusalOf infer files o.status o.bytes)
-
 refusal_finished : (infer : Infer) (name : List ℕ) (files : List SourceFile) (o : Outcome) (status : Status) (bytes : List ℕ) (kb kn : ℕ) (result : Status) → IsRefusalOf infer files status bytes → o.now ≡ o.before → Finished o.old o.new bytes status kb kn result → AnswersFiles infer name files o result
 refusal_finished infer name files o status bytes kb kn result r s f = finished infer name files o (Refused r.rows) status bytes kb kn result r.are (r.ends, r.shows) s f
 
-many_files : (infer : Infer) (name : List ℕ) (names : List (List ℕ)) (o : Outcome) (kb kn : ℕ) (result : Status) (output : Result Output NoMemory) → IsMany names output → o.now ≡ o.before → IfMade output (λ status bytes. Finished o.old o.new bytes status kb kn result) ((result ≡ OutOfMemory) × (o.new ≡ o.old) × (kn ≡ kb)) → AnswersFiles infer name (files_named names) o result
+many_files : (infer : Infer) (name : List ℕ) (names : List (List ℕ)) (o : Outcome) (kb kn : ℕ) (result : Status) (output : Result Output NoMemory) → IsMany names output → o.now ≡ o.before → Ends o.old o.new kb kn result output → AnswersFiles infer name (files_named names) o result
 many_files infer name names o kb kn result (MadeOk r) many s f = refusal_finished infer name (files_named names) o r.status r.bytes kb kn result (many infer (files_named names) (named_are names)) s f
 many_files infer name names o kb kn result (Err e) many s f = subst (AnswersFiles infer name (files_named names) o) (sym f.0) (f.1, s)
 
-pub many_answers : (read : Reading) (infer : Infer) (name : List ℕ) (names : List (List ℕ)) (o : Outcome) (kb kn : ℕ) (result : Status) (output : Result Output NoMemory) → most_files < length names → IsMany names output → o.now ≡ o.before → IfMade output (λ status bytes. Finished o.old o.new bytes status kb kn result) ((result ≡ OutOfMemory) × (o.new ≡ o.old) × (kn ≡ kb)) → Answers read (Some (command infer name names)) o result
+pub many_answers : (read : Reading) (infer : Infer) (name : List ℕ) (names : List (List ℕ)) (o : Outcome) (kb kn : ℕ) (result : Status) (output : Result Output NoMemory) → most_files < length names → IsMany names output → o.now ≡ o.before → Ends o.old o.new kb kn result output → Answers read (Some (command infer name names)) o result
 many_answers read infer name names o kb kn result output lt many s f = inl (record {
   files = files_named names;
   are = record { named = named_are names; told = λ few. absurd (omega (arith, few, lt)); given = λ few. absurd (omega (arith, few, lt)) };
   answer = many_files infer name names o kb kn result output many s f;
 })
-
-read_refused : ReadFault ≡ RefusedStatus → ⊥
-read_refused e = cc
-
-read_write : ReadFault ≡ WriteFault → ⊥
-read_write e = cc
-
-read_memory : ReadFault ≡ OutOfMemory → ⊥
-read_memory e = cc
-
-write_refused : WriteFault ≡ RefusedStatus → ⊥
-write_refused e = cc
-
-write_memory : WriteFault ≡ OutOfMemory → ⊥
-write_memory e = cc
-
--- no read fault, and a write fault only where the count rose
-pub many_unread : (infer : Infer) (names : List (List ℕ)) (old new : Option (List ℕ)) (kb kn : ℕ) (result : Status) (output : Result Output NoMemory) → IsMany names output → IfMade output (λ status bytes. Finished old new bytes status kb kn result) ((result ≡ OutOfMemory) × (new ≡ old) × (kn ≡ kb)) → result ≡ ReadFault → ⊥
-many_unread infer names old new kb kn result (MadeOk r) many (inl p) e = read_refused (sym e ∙ p.0 ∙ (many infer (files_named names) (named_are names)).ends)
-many_unread infer names old new kb kn result (MadeOk r) many (inr p) e = read_write (sym e ∙ p.0)
-many_unread infer names old new kb kn result (Err x) many f e = read_memory (sym e ∙ f.0)
-
-pub many_rose : (infer : Infer) (names : List (List ℕ)) (old new : Option (List ℕ)) (kb kn : ℕ) (result : Status) (output : Result Output NoMemory) → IsMany names output → IfMade output (λ status bytes. Finished old new bytes status kb kn result) ((result ≡ OutOfMemory) × (new ≡ old) × (kn ≡ kb)) → result ≡ WriteFault → Rose kb kn
-many_rose infer names old new kb kn result (MadeOk r) many (inl p) e = absurd (write_refused (sym e ∙ p.0 ∙ (many infer (files_named names) (named_are names)).ends))
-many_rose infer names old new kb kn result (MadeOk r) many (inr p) e = p.2
-many_rose infer names old new kb kn result (Err x) many f e = absurd (write_memory (sym e ∙ f.0))
 
 -- ---- words that are no command's
 

@@ -1,13 +1,12 @@
 //! What is told and stored of a verdict.
-ghost use Rattle.std.specs.Prelude.{◌≡◌, ◌<◌, ◌⊎◌, ◌++◌, List, IfOk, codes, length, map, string_bytes, true};
+ghost use Rattle.std.specs.Prelude.{◌≡◌, ◌<◌, ◌⊎◌, ◌++◌, List, IfOk, codes, true};
 ghost use Rattle.jn_base.specs.declared.infer.Infer.{Infer};
 ghost use Rattle.jn_outside.specs.Causes.{Rose};
 ghost use Rattle.jn_command.specs.Shown.{shown};
 ghost use Rattle.jn_command.specs.Reports.{rows_of as rows_of_report, status_of};
 ghost use Rattle.jn_command.specs.Stands.{StandIn};
 ghost use Rattle.jn_front.specs.declared.source.SourceFile.{SourceFile as FileOf};
-ghost use Rattle.jn_front.specs.Files.{AreReads, most_files, names_of};
-ghost use Rattle.nullcheck_cert_check.specs.Told.{IsRefusalOf};
+ghost use Rattle.jn_front.specs.Files.{AreReads};
 ghost use Rattle.jn_reporters.specs.Reports.{plain_shown};
 ghost use Rattle.nullcheck_cert_write.specs.declared.made.CertMade.TheVariants.{Made};
 ghost use Rattle.jn_cert_form.specs.Form.{magic};
@@ -18,30 +17,13 @@ ghost use Rattle.nullcheck_cert_write.specs.Verdicts.{IsVerdict, rows_of};
 use crate::made::CertMade;
 use jn_base::{OutOfMemory, Seq};
 use jn_command::output::{Output, finish, write};
-use jn_command::show::{show, show_number};
+use jn_command::show::show;
 use jn_command::{Report, Status};
 use jn_front::SourceRead;
 use jn_outside::Sink;
 use jn_reporters::{Plain, Reporter};
 use jn_targets::Targets;
 use std::alloc::{AllocError, Global};
-
-/// The greatest number of files.
-pub(crate) const MOST_FILES: usize = 64;
-
-/// The output of more files than there may be: one row at the first that is too many.
-pub(crate) fn number_output(alloc: Global, names: &[String]) -> Result<Output, OutOfMemory>
-    requires many { most_files < length names.now }
-    ensures { IfOk result (λ o. (infer : Infer) (files : List FileOf)
-        → names_of files ≡ map string_bytes names.now → IsRefusalOf infer files o.status o.bytes) }
-{
-    let shower = show_number(alloc, names[MOST_FILES].as_str(), Plain::new(alloc))?;
-    let text = Vec::from_slice(alloc, shower.bytes())?;
-    Ok(Output {
-        status: Status::Refused,
-        bytes: Seq::of_vec(text),
-    })
-}
 
 /// The output of a report of files that were read, by the plain reporter.
 pub(crate) fn report_output(

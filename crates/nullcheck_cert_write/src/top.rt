@@ -13,7 +13,7 @@ ghost use Rattle.nullcheck_cert_write.specs.Answer.{Answers, AnswersFiles, Holds
 
 use crate::command::read_write;
 use crate::making::find;
-use crate::outputs::{MOST_FILES, number_output, tell};
+use crate::outputs::tell;
 use jn_base::{Fail, Infer};
 use jn_command::Status;
 use jn_command::output::{finish, write};
@@ -21,6 +21,7 @@ use jn_front::{SourceRead, read_all};
 use jn_outside::{Files, Sink};
 use jn_sharing::{Gate, Workers};
 use jn_targets::Targets;
+use nullcheck_cert_check::{MOST_FILES, number_output};
 use std::alloc::Global;
 use std::thread::Threads;
 

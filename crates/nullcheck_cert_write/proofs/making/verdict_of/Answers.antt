@@ -1,6 +1,7 @@
 use Rattle.std.proofs.Common.{map, subst}
 use Rattle.jn_places.specs.PlacedView.{placed_file}
-use Rattle.nullcheck_cert_write.proofs.Finding.{IsTypedAll, IsWhole, found_all, found_stands, program_read}
+use Rattle.nullcheck_cert_check.proofs.Certified.{IsTypedAll, IsWhole, program_read}
+use Rattle.nullcheck_cert_write.proofs.Finding.{found_all, found_stands}
 use Rattle.jn_front.proofs.Kept.{read_from}
 use Rattle.nullcheck_cert_write.proofs.making.verdict_of.Goals as goal
 
@@ -11,7 +12,7 @@ make_based-requires-clause-program g c κs lives =
     let names = c.args.names.now in
     let whole = subst (IsWhole reads) c.in-Some.is c.requires.whole in
     let typed = subst (IsTypedAll c.args.infer reads names trees c.args.rows) c.in-Some.is c.requires.typed in
-    program_read c.args.infer reads names trees c.args.rows c.in-Some.base (read_from c.args.reads.now) typed whole
+    program_read c.args.infer reads names trees c.args.rows c.in-Some.base whole (read_from c.args.reads.now) typed
 
 pub returns-in-None-clause-found : goal.returns-in-None-clause-found
 returns-in-None-clause-found g c files are =

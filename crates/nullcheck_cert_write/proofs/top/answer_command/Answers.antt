@@ -4,7 +4,8 @@ use Rattle.jn_front.specs.Files.{ReadFrom}
 use Rattle.jn_command.specs.Answer.{reading}
 use Rattle.jn_phases.proofs.Fitting.{few_reads, many_names}
 use Rattle.nullcheck_cert_write.specs.Answer.{outcome}
-use Rattle.nullcheck_cert_write.proofs.Telling.{many_answers, many_rose, many_unread}
+use Rattle.nullcheck_cert_check.proofs.Answering.{many_unread, many_written, no_fault}
+use Rattle.nullcheck_cert_write.proofs.Telling.{many_answers}
 use Rattle.nullcheck_cert_write.proofs.top.answer_command.Goals as goal
 
 pub returns-then-names-gt-MOST_FILES-clause-answer : goal.returns-then-names-gt-MOST_FILES-clause-answer
@@ -16,15 +17,15 @@ returns-then-names-gt-MOST_FILES-clause-answer g c =
 
 pub returns-then-names-gt-MOST_FILES-clause-read : goal.returns-then-names-gt-MOST_FILES-clause-read
 returns-then-names-gt-MOST_FILES-clause-read g c e =
-    absurd (many_unread c.args.infer (map string_bytes c.args.names.now) (g.K.Sink.written c.args.out.now) (g.K.Sink.written c.write.new.out) (g.K.Sink.faults c.args.out.now) (g.K.Sink.faults c.write.new.out) c.write.result c.number_output.result c.number_output.ensures c.write.ensures e)
+    absurd (many_unread c.args.infer c.args.cert.now (map string_bytes c.args.names.now) c.number_output.result (g.K.Sink.written c.args.out.now) (g.K.Sink.written c.write.new.out) (g.K.Sink.faults c.args.out.now) (g.K.Sink.faults c.write.new.out) c.write.result c.number_output.ensures c.write.ensures e)
 
 pub returns-then-names-gt-MOST_FILES-clause-read_steady : goal.returns-then-names-gt-MOST_FILES-clause-read_steady
 returns-then-names-gt-MOST_FILES-clause-read_steady g c steady all e =
-    many_unread c.args.infer (map string_bytes c.args.names.now) (g.K.Sink.written c.args.out.now) (g.K.Sink.written c.write.new.out) (g.K.Sink.faults c.args.out.now) (g.K.Sink.faults c.write.new.out) c.write.result c.number_output.result c.number_output.ensures c.write.ensures e
+    many_unread c.args.infer c.args.cert.now (map string_bytes c.args.names.now) c.number_output.result (g.K.Sink.written c.args.out.now) (g.K.Sink.written c.write.new.out) (g.K.Sink.faults c.args.out.now) (g.K.Sink.faults c.write.new.out) c.write.result c.number_output.ensures c.write.ensures e
 
 pub returns-then-names-gt-MOST_FILES-clause-write : goal.returns-then-names-gt-MOST_FILES-clause-write
 returns-then-names-gt-MOST_FILES-clause-write g c e =
-    inl (many_rose c.args.infer (map string_bytes c.args.names.now) (g.K.Sink.written c.args.out.now) (g.K.Sink.written c.write.new.out) (g.K.Sink.faults c.args.out.now) (g.K.Sink.faults c.write.new.out) c.write.result c.number_output.result c.number_output.ensures c.write.ensures e)
+    inl (no_fault (g.K.Sink.written c.args.out.now) (g.K.Sink.written c.write.new.out) (g.K.Sink.faults c.args.out.now) (g.K.Sink.faults c.write.new.out) c.write.result c.number_output.result (many_written c.args.infer (map string_bytes c.args.names.now) c.number_output.result c.number_output.ensures) c.write.ensures e)
 
 pub answer_reads-requires-clause-few : goal.answer_reads-requires-clause-few
 answer_reads-requires-clause-few g c κs lives =
