@@ -1,11 +1,7 @@
 -- Masks that have no bit of any slot of lists.
-use Rattle.std.proofs.Common.{◌≡◌, ℕ, ◌+◌, ◌<◌, Bool, true, false, List, [], ◌∷◌, ◌++◌, length, drop, get_or, refl, sym, ap, ◌∙◌, subst}
-use Rattle.std.specs.Prelude.{◌↔◌, ◌&&◌, filter, eqb}
+use Rattle.std.proofs.Common.{◌≡◌, ℕ, ◌+◌, ◌<◌, Bool, true, false, List, ◌∷◌, ◌++◌, length, drop, get_or, refl, sym, ap, ◌∙◌, subst}
+use Rattle.std.specs.Prelude.{◌↔◌, ◌&&◌}
 use Rattle.std.proofs.lemmas.List.{drop_more}
-use Rattle.jn_points.specs.declared.program.Program.{Program}
-use Rattle.jn_points.specs.Lookup.{class_of, ctor_of, method_in, owner, ref_field}
-use Rattle.jn_points.specs.Members.{below}
-use Rattle.jn_env.specs.Keys.{own_keys}
 use Rattle.jn_recheck_law.specs.Unread.{AreUnlost}
 use Rattle.jn_recheck_law.proofs.Apart.{unlost_both, unlost_left, unlost_right}
 
@@ -46,12 +42,3 @@ module _ (bits : ℕ → ℕ) where
       (λ e. absurd (never e)),
       (λ h. absurd (a (unlost_left bits (f (get_or xs i d)) (F (drop (i + 1) xs)) (subst (AreUnlost bits) (opened d i lt) (left.0 h))))),
     )
-
--- a body that is no constructor's has no fields to assign
-none_pass : (P : Program) (class : ℕ) (ctor : Bool) → ctor ≡ false → (fs : List ℕ) → filter (λ f. ctor && eqb (owner P f) class && ref_field P f) fs ≡ []
-none_pass P class true e fs = cc
-none_pass P class false e [] = refl
-none_pass P class false e (f ∷ fs) = none_pass P class false e fs
-
-pub no_own_keys : (P : Program) (b : ℕ) → ctor_of (method_in P b) ≡ false → own_keys P b ≡ []
-no_own_keys P b e = none_pass P (class_of (method_in P b)) (ctor_of (method_in P b)) e (below (length P.fields))

@@ -1,29 +1,23 @@
 -- Bits that are gone: they stand in the start, are put out again, or may be lost.
-use Rattle.std.proofs.Common.{◌≡◌, ℕ, zero, suc, ◌+◌, ◌<◌, ◌==◌, if◌then◌else◌, Bool, true, false, List, [], ◌∷◌, ◌++◌, length, set, take, drop, get_or, get_or-set_other, get_or-set_same, bit_or, bit_and, bit_xor, refl, sym, ap, ◌∙◌, subst, arith}
+use Rattle.std.proofs.Common.{◌≡◌, ℕ, suc, ◌+◌, ◌<◌, ◌==◌, if◌then◌else◌, Bool, true, false, List, [], ◌∷◌, ◌++◌, length, set, take, drop, get_or, get_or-set_other, get_or-set_same, bit_or, bit_and, bit_xor, refl, sym, ap, ◌∙◌, subst, arith}
 use mathlib.Core.Logic.{dite}
 use mathlib.Core.Option.{some}
 use native.Mathlib.Decide.{ℕ_discrete}
 use lib.ListN.{get_elem?}
 use Rattle.std.specs.Prelude.{slice_index}
 use Rattle.std.proofs.lemmas.List.{drop_more}
-use Rattle.std.proofs.lemmas.Nat.Bits.{bit_at-lt, bit_at-zero, bit_at_and, bit_at_or, bit_at_xor}
+use Rattle.std.proofs.lemmas.Nat.Bits.{bit_at-lt, bit_at_and, bit_at_or, bit_at_xor}
 use Rattle.jn_base.specs.declared.number.WordNo.{WordNo}
 use Rattle.jn_sigtable.specs.System.{Within, bits_for}
 use Rattle.jn_sigtable.proofs.Bits.{within_or_l, within_or_r, within_refl, within_trans}
 use Rattle.jn_worklist.proofs.RaiseSteps.{snoc_within, take_more}
+use Rattle.jn_resume.proofs.Standing.{snoc_at, snoc_below, snoc_long}
 use Rattle.jn_again.specs.Losing.{AreGone, Grows}
-
--- the bits of outputs for a word, one after the other
-pub bits_first : (os : List (WordNo × ℕ)) (w : ℕ) → Within (bit_or 0 (bits_for os w)) (bits_for os w)
-bits_first os w i = omega (arith, bit_at_or 0 (bits_for os w) i, bit_at-zero i)
 
 pub bits_more : (os : List (WordNo × ℕ)) (i : ℕ) (d : WordNo × ℕ) (w bits more z : ℕ) → i < length os → more ≡ (if (get_or os i d).0.0 == w then bit_or bits (get_or os i d).1 else bits) → Within (bit_or bits (bits_for (drop i os) w)) z → Within (bit_or more (bits_for (drop (i + 1) os) w)) z
 bits_more os i d w bits more z lt e h =
     subst (λ (x : ℕ). Within (bit_or x (bits_for (drop (i + 1) os) w)) z) (sym e) (go ((get_or os i d).0.0 == w) (subst (λ (l : List (WordNo × ℕ)). Within (bit_or bits (bits_for l w)) z) (drop_more os i d lt) h))
   where
-    rest : ℕ
-    rest = bits_for (drop (i + 1) os) w
-
     joined : (a b c : ℕ) → Within (bit_or (bit_or a b) c) (bit_or a (bit_or b c))
     joined a b c j = omega (arith, bit_at_or (bit_or a b) c j, bit_at_or a b j, bit_at_or a (bit_or b c) j, bit_at_or b c j)
 
@@ -82,20 +76,6 @@ same_or bits a b c d e f h = subst (λ (x : ℕ). Within bits (bit_or x d)) e (s
 -- all bits but those of the start
 pub first_lost : (b s : ℕ) → Within b (bit_or s (bit_xor b (bit_and b s)))
 first_lost b s i = omega (arith, bit_at_or s (bit_xor b (bit_and b s)) i, bit_at_xor b (bit_and b s) i, bit_at_and b s i, bit_at-lt b i, bit_at-lt s i)
-
--- lists that are made word by word
-snoc_below : (xs : List ℕ) (x w : ℕ) → w < length xs → slice_index (xs ++ x ∷ []) w ≡ slice_index xs w
-snoc_below [] x w lt = absurd (omega (arith, lt))
-snoc_below (y ∷ ys) x zero lt = refl
-snoc_below (y ∷ ys) x (suc w) lt = snoc_below ys x w (omega (arith, lt))
-
-snoc_at : (xs : List ℕ) (x : ℕ) → slice_index (xs ++ x ∷ []) (length xs) ≡ x
-snoc_at [] x = refl
-snoc_at (y ∷ ys) x = snoc_at ys x
-
-pub snoc_long : (xs : List ℕ) (x : ℕ) → length (xs ++ x ∷ []) ≡ length xs + 1
-snoc_long [] x = refl
-snoc_long (y ∷ ys) x = let e = snoc_long ys x in omega (arith, e)
 
 -- what holds of each item of a list that is made item by item
 pub each_more : (F : ℕ → ℕ → Type 0) (n : ℕ) (xs more : List ℕ) (x : ℕ) → more ≡ xs ++ x ∷ [] → length xs ≡ n → ((w : ℕ) → w < n → F w (slice_index xs w)) → F n x → (length more ≡ n + 1) × ((w : ℕ) → w < n + 1 → F w (slice_index more w))

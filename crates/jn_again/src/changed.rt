@@ -1,5 +1,5 @@
 //! Which tasks may do something else than they did.
-ghost use Rattle.std.specs.Prelude.{◌≡◌, ◌↔◌, ◌<◌, ◌≤◌, None, Some, MatchOption, false, true, get_or, length, IfOk};
+ghost use Rattle.std.specs.Prelude.{◌≡◌, ◌↔◌, ◌<◌, None, Some, MatchOption, false, true, get_or, length, IfOk};
 ghost use Rattle.jn_again.specs.Flags.{AreChangedBelow, AreSame};
 ghost use Rattle.jn_points.specs.Lookup.{body_at};
 ghost use Rattle.jn_recheck_law.specs.Reusable.{ActAlike};

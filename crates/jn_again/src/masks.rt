@@ -1,5 +1,5 @@
 //! Masks of bits, one for each word.
-ghost use Rattle.std.specs.Prelude.{◌≡◌, ◌≤◌, ◌<◌, ℕ, true, length, slice_index, bit_or, bit_xor, ◌==◌, if◌then◌else◌, IfOk};
+ghost use Rattle.std.specs.Prelude.{◌≡◌, ◌<◌, ℕ, true, length, slice_index, bit_or, bit_xor, ◌==◌, if◌then◌else◌, IfOk};
 ghost use Rattle.jn_sigtable.specs.System.{Within, bits_for};
 ghost use Rattle.jn_again.specs.Losing.{AreGone, Grows};
 

@@ -138,7 +138,7 @@ fn off_fields(bits: &[u64], program: &Program, fields: &[u32]) -> bool
 }
 
 /// Whether they have none of the fields that a constructor has to assign.
-#[tactic(auto, using(crate::proofs::Clear::no_own_keys))]
+#[tactic(auto, using(jn_reuse::proofs::Agreeing::no_own_keys))]
 fn off_own_fields(
     alloc: Global,
     bits: &[u64],

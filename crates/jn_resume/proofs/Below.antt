@@ -10,9 +10,6 @@ use Rattle.jn_sigtable.specs.System.{Covers, IsClosed, IsLawful, IsLeast, System
 use Rattle.jn_sigtable.proofs.Bits.{or_within, within_or_l, within_trans}
 use Rattle.jn_resume.specs.Keepable.{AgreesBut, AreKeepable, IsBlind}
 
-and_left : (a b : ℕ) → Within (bit_and a b) a
-and_left a b i = omega (arith, bit_at_and a b i)
-
 and_right : (a b : ℕ) → Within (bit_and a b) b
 and_right a b i = omega (arith, bit_at_and a b i)
 

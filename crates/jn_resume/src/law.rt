@@ -1,5 +1,5 @@
 //! Which words of an earlier solving are below the least words.
-ghost use Rattle.std.specs.Prelude.{◌≡◌, ℕ, ◌<◌, Bool, List, length, slice_index, bit_or};
+ghost use Rattle.std.specs.Prelude.{ℕ, ◌<◌, Bool, List, slice_index, bit_or};
 ghost use Rattle.jn_sigtable.specs.System.{System, Within, least};
 ghost use Rattle.jn_resume.specs.Keepable.{AreKeepable, IsEditOf};
 
