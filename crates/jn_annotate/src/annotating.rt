@@ -1,7 +1,7 @@
 //! The texts of files with the words of what was inferred of them.
 ghost use Rattle.std.specs.Prelude.{◌≡◌, ◌<◌, ◌^◌, drop, length, map, IfErr, IfOk};
 ghost use Rattle.jn_trees.specs.View.{file_view};
-ghost use Rattle.jn_annotate.specs.Annotated.{annotated_from, AreWorded, has_taken_name, HasNone, is_too_large};
+ghost use Rattle.jn_annotate.specs.Annotated.{annotated_from, AreWorded, HasNone, is_too_large};
 ghost use Rattle.jn_annotate.specs.Chosen.{chosen_slots};
 ghost use Rattle.jn_annotate.specs.Answers.{IsLargeOf, IsWhyRefused};
 ghost use Rattle.jn_annotate.specs.Imports.{with_lines};
@@ -125,44 +125,8 @@ fn sized(texts: Vec<Seq<u8>>) -> Result<Vec<Seq<u8>>, Fail<AnnotateFault>>
     }
 }
 
-/// The same of files none of whose slots that count as inferred gets a word that can't be imported, where imports are asked for.
+/// The texts of files of which these slots count as inferred, unless they are refused.
 #[tactic(auto, using(crate::proofs::Texts::is_worded, crate::proofs::Texts::is_large))]
-fn annotate_named(
-    alloc: Global,
-    imports: bool,
-    texts: &[Seq<u8>],
-    tokens: &[Seq<Token>],
-    trees: &[FileTree],
-    program: &Program,
-    said: &Program,
-    sig: &Sig,
-) -> Result<Vec<Seq<u8>>, Fail<AnnotateFault>>
-    requires named { HasNone
-        (has_taken_name imports said.now.slots program.now sig.now (map file_view trees.now)) }
-    requires files { length texts.now < 2 ^ 32 }
-    ensures annotated { IfOk result (λ new. AreWorded said.now.slots imports program.now sig.now
-        texts.now tokens.now
-        (map file_view trees.now) new.items) }
-    ensures refused { IfErr result (λ fail. IsWhyRefused said.now.slots imports program.now sig.now
-        texts.now tokens.now
-        (map file_view trees.now) fail) }
-{
-    match first_shared(alloc, program, sig, trees) {
-        Err(_) => Err(Fail::OutOfMemory),
-        Ok(Some(slot)) => Err(Fail::Refused(AnnotateFault::SharedType(SlotNo(slot)))),
-        Ok(None) => {
-            let methods = next_methods(program.methods.as_slice());
-            match annotated_texts(
-                alloc, imports, texts, tokens, trees, program, said, sig, methods,
-            ) {
-                Err(_) => Err(Fail::OutOfMemory),
-                Ok(new) => sized(new),
-            }
-        }
-    }
-}
-
-/// The same of files of which these slots count as inferred.
 fn annotate_said(
     alloc: Global,
     imports: bool,
@@ -184,7 +148,19 @@ fn annotate_said(
 {
     match first_taken(imports, program, said, sig, trees) {
         Some(slot) => Err(Fail::Refused(AnnotateFault::NameTaken(SlotNo(slot)))),
-        None => annotate_named(alloc, imports, texts, tokens, trees, program, said, sig),
+        None => match first_shared(alloc, program, sig, trees) {
+            Err(_) => Err(Fail::OutOfMemory),
+            Ok(Some(slot)) => Err(Fail::Refused(AnnotateFault::SharedType(SlotNo(slot)))),
+            Ok(None) => {
+                let methods = next_methods(program.methods.as_slice());
+                match annotated_texts(
+                    alloc, imports, texts, tokens, trees, program, said, sig, methods,
+                ) {
+                    Err(_) => Err(Fail::OutOfMemory),
+                    Ok(new) => sized(new),
+                }
+            }
+        },
     }
 }
 

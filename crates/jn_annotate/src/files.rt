@@ -1,39 +1,21 @@
 //! Where the words of a file's inferred slots stand, type by type.
-ghost use Rattle.std.specs.Prelude.{◌≡◌, ◌++◌, ◌+◌, ◌-◌, cond, drop, map, take, IfOk, OnOk};
+ghost use Rattle.std.specs.Prelude.{◌≡◌, ◌++◌, ◌+◌, cond, drop, map, IfOk, OnOk};
 ghost use Rattle.jn_trees.specs.View.{file_view, member_view, member_views, type_view};
-ghost use Rattle.jn_splice_law.specs.Woven.{piece};
 ghost use Rattle.jn_annotate.specs.Insertions as spec;
 ghost use Rattle.jn_annotate.specs.Puts.{insertions};
 
 use crate::insert::Put;
 use crate::members::{fields_behind, methods_behind, next_methods, put_members};
-use crate::parts::{bytes_behind, first_bytes};
+use crate::parts::bytes_at;
 use crate::steps::{
     behind_imports, behind_interfaces, behind_marks, behind_package, behind_parent, behind_parents,
     behind_type, front, step,
 };
-use jn_base::{OutOfMemory, Span};
+use jn_base::OutOfMemory;
 use jn_points::{Field, Method, Program};
 use jn_sigs::Sig;
 use jn_trees::{FileTree, Member, Token, TypeTree};
 use std::alloc::Global;
-
-/// A number less another one, or nothing.
-fn less(from: u32, by: u32) -> u32
-    ensures { result ≡ from - by }
-{
-    if by < from { from - by } else { 0 }
-}
-
-/// The bytes of a text at a place.
-fn bytes_at(text: &[u8], span: Span) -> &[u8]
-    ensures { result.now ≡ piece text.now span }
-{
-    first_bytes(
-        bytes_behind(text, span.from as usize),
-        less(span.to, span.from) as usize,
-    )
-}
 
 /// The fields after those of members.
 #[tactic(auto, using(crate::proofs::Cursors::drop_twice))]

@@ -1,5 +1,5 @@
 //! Packages of annotations of which a file gets words that it doesn't import.
-ghost use Rattle.std.specs.Prelude.{◌≡◌, ◌&&◌, ◌++◌, map, not, IfOk, OnOk};
+ghost use Rattle.std.specs.Prelude.{◌≡◌, ◌&&◌, ◌++◌, map, IfOk, OnOk};
 ghost use Rattle.jn_points.specs.Members.{some_of};
 ghost use Rattle.jn_trees.specs.View.{identifier_names, import_view};
 ghost use Rattle.jn_annotate.specs.Imports as spec;

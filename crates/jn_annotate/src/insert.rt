@@ -2,9 +2,9 @@
 ghost use Rattle.std.specs.Prelude.{◌≡◌, ◌≤◌, ◌-◌, ◌++◌, length, take, drop, true, IfOk};
 ghost use Rattle.jn_splice_law.specs.Inserted.{inserted, put_in};
 ghost use Rattle.jn_splice_law.specs.Passed.{Rising};
-ghost use Rattle.jn_annotate.specs.Puts.{insertion, insertions};
+ghost use Rattle.jn_annotate.specs.Puts.{insertions};
 
-use crate::parts::{bytes_behind, first_bytes};
+use crate::parts::{first_items, items_behind};
 use jn_base::Seq;
 use std::alloc::{AllocError, Global};
 
@@ -78,9 +78,9 @@ fn rises(puts: &[Put], end: usize) -> bool
 fn insert_one(alloc: Global, text: &[u8], put: &Put) -> Result<Vec<u8>, AllocError>
     ensures { IfOk result (λ new. new.items ≡ put_in put.now.at put.now.words text.now) }
 {
-    let mut new = Vec::from_slice(alloc, first_bytes(text, put.at))?;
+    let mut new = Vec::from_slice(alloc, first_items(text, put.at))?;
     new.extend_from_slice(put.words.as_slice())?;
-    new.extend_from_slice(bytes_behind(text, put.at))?;
+    new.extend_from_slice(items_behind(text, put.at))?;
     Ok(new)
 }
 

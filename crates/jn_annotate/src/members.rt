@@ -1,6 +1,6 @@
 //! Where the words of a file's inferred slots stand: a walk over its members, with cursors into its tokens and into the fields and methods of
 //! its program.
-ghost use Rattle.std.specs.Prelude.{◌≡◌, ◌++◌, drop, map, IfOk, OnOk};
+ghost use Rattle.std.specs.Prelude.{◌≡◌, ◌++◌, drop, OnOk};
 ghost use Rattle.jn_trees.specs.Spelling.{spell_marks, spell_result};
 ghost use Rattle.jn_trees.specs.View.{local_marks, member_view, member_views, parameter_views, receiver_view, result_view, type_use_view};
 ghost use Rattle.jn_places.specs.Places.{behind};
@@ -9,6 +9,7 @@ ghost use Rattle.jn_annotate.specs.Words.{both_texts};
 ghost use Rattle.jn_annotate.specs.Puts.{insertions};
 
 use crate::insert::Put;
+use crate::parts::items_behind;
 use crate::positions::{inferred_qual, put_both, put_nullity, put_receiver};
 use crate::steps::{
     behind_local_marks, behind_marks, behind_member, behind_parameter, behind_receiver,
@@ -19,18 +20,6 @@ use jn_points::{Field, Method, Program};
 use jn_sigs::Sig;
 use jn_trees::{Member, Parameter, Receiver, ResultUse, Token};
 use std::alloc::Global;
-
-/// The fields after so many.
-#[tactic(auto, using(crate::proofs::Cursors::drop_all))]
-pub fn later_fields(fields: &[Field], count: usize) -> &[Field]
-    ensures { result.now ≡ drop count fields.now }
-{
-    if count < fields.len() {
-        &fields[count..]
-    } else {
-        &[]
-    }
-}
 
 /// The methods after the first.
 pub fn next_methods(methods: &[Method]) -> &[Method]
@@ -57,7 +46,7 @@ pub fn fields_behind<'p>(fields: &'p [Field], member: &Member) -> &'p [Field]
     ensures { result.now ≡ drop (spec.fields_in (member_view member.now)) fields.now }
 {
     match member {
-        Member::Field { more, .. } => later_fields(later_fields(fields, 1), more.len()),
+        Member::Field { more, .. } => items_behind(items_behind(fields, 1), more.len()),
         Member::Method { .. } => fields,
         Member::Constructor { .. } => fields,
     }

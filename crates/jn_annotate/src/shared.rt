@@ -8,6 +8,7 @@ ghost use Rattle.jn_annotate.specs.Shared as spec;
 
 use crate::files::{fields_behind_type, fields_behind_types};
 use crate::members::{fields_behind, first_slot};
+use crate::parts::first_items;
 use jn_base::lists::put;
 use jn_base::{OutOfMemory, SlotNo};
 use jn_points::{Field, Program};
@@ -74,18 +75,6 @@ fn put_fields(
     Ok(())
 }
 
-/// The first fields, so many.
-#[tactic(auto, using(crate::proofs::Cursors::take_all))]
-fn first_fields(fields: &[Field], count: usize) -> &[Field]
-    ensures { result.now ≡ take count fields.now }
-{
-    if count < fields.len() {
-        &fields[..count]
-    } else {
-        fields
-    }
-}
-
 /// The qualifier of the first field.
 fn first_qual(sig: &Sig, fields: &[Field]) -> Qual
     ensures { result ≡ slot_qual sig.now (spec_first fields.now) }
@@ -115,7 +104,7 @@ fn put_declared(
         Some((field, rest)) => {
             let qual = first_qual(sig, fields);
             put_slot(slots, program, sig, qual, field.slot)?;
-            put_fields(slots, program, sig, qual, first_fields(rest, more))
+            put_fields(slots, program, sig, qual, first_items(rest, more))
         }
     }
 }

@@ -5,6 +5,7 @@ ghost use Rattle.jn_trees.specs.View.{annotation_names, brackets_view, dotted_vi
 ghost use Rattle.jn_places.specs.Places.{behind, front as spec_front, spell_local_mark, spell_parameter_through, spell_receiver};
 ghost use Rattle.jn_trees.specs.declared.token.TokenKind.TheVariants.{Extends, Implements, Package as PackageWord};
 
+use crate::parts::items_behind;
 use jn_base::{FileNo, OutOfMemory, Span};
 use jn_trees::{
     Annotation, Identifier, Import, LocalModifier, Member, Modifier, PackageLine, Parameter,
@@ -21,18 +22,6 @@ pub fn step(tokens: &[Token]) -> &[Token]
     match tokens.split_first() {
         None => tokens,
         Some((_, rest)) => rest,
-    }
-}
-
-/// The tokens after so many.
-#[tactic(auto, using(crate::proofs::Cursors::drop_all))]
-fn skip(tokens: &[Token], count: usize) -> &[Token]
-    ensures { result.now ≡ drop count tokens.now }
-{
-    if count < tokens.len() {
-        &tokens[count..]
-    } else {
-        &[]
     }
 }
 
@@ -250,7 +239,7 @@ pub fn behind_member<'t>(
 {
     let mut kinds = Vec::new(alloc);
     put_member(&mut kinds, member)?;
-    Ok(skip(tokens, kinds.len()))
+    Ok(items_behind(tokens, kinds.len()))
 }
 
 /// What stands after a type.
@@ -264,5 +253,5 @@ pub fn behind_type<'t>(
 {
     let mut kinds = Vec::new(alloc);
     put_type(&mut kinds, declared)?;
-    Ok(skip(tokens, kinds.len()))
+    Ok(items_behind(tokens, kinds.len()))
 }

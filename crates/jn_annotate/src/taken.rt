@@ -111,7 +111,7 @@ fn is_initialization_taken(taken: TakenWords, q: Qual) -> bool
 }
 
 /// Whether it is the slot.
-fn is_slot(slot: u32, has: Option<SlotNo>) -> bool
+pub fn is_slot(slot: u32, has: Option<SlotNo>) -> bool
     ensures { result ≡ sigs.is_slot slot has }
 {
     match has {

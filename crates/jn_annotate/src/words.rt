@@ -1,5 +1,5 @@
 //! The words that spell a qualifier.
-ghost use Rattle.std.specs.Prelude.{◌≡◌, codes};
+ghost use Rattle.std.specs.Prelude.{◌≡◌};
 ghost use Rattle.jn_annotate.specs.Words.{initialization_text, is_unspelled, nullity_text};
 
 use jn_quals::Qual;

@@ -33,6 +33,7 @@ use Rattle.jn_heads.specs.declared.head.MethodHead.{MethodHead}
 use Rattle.jn_heads.specs.declared.head.ClassHead.{ClassHead}
 use Rattle.jn_heads.specs.Heads.{no_notes, no_span, unwritten_constructor}
 use Rattle.jn_heads.specs.Extract.{is_word, has_word, is_named, is_note, is_local_note, count, negated_tree, tree_value, first_value, this_call, first_call, has_statements, has_constructor, with_constructor, notes_by, modifier_notes, local_notes, type_head, field_head, param_head, result_head, field_heads, method_heads, class_head, heads}
+use Rattle.jn_lowering.specs.FileRows.{is_int_start, is_number_tree, is_truth_start}
 use Rattle.jn_annotate.specs.Insertions.{fields_in, methods_in, type_fields, type_methods, file_fields, file_methods, first_slot, inferred_qual}
 use Rattle.jn_annotate_law.specs.Trees.{nullity_names, names_of, leading, at_brackets, noted_use, noted_marks, noted_parameter, noted_receiver, noted_result, noted_result_marks, both_at, noted_parameters, noted_member, noted_members, noted_type, noted_types, noted_file, noted_files}
 use Rattle.jn_annotate_law.specs.Noted.{has_name}
@@ -41,49 +42,31 @@ use Rattle.jn_heads_law.specs.Plain.{plain_name, plain_use, plain_type, plain_ki
 
 -- ---- modifiers
 
-word_same : (w : Word) (ts us : List Token) (m : Mark) → is_word w (place_mark ts m) ≡ is_word w (place_mark us m)
-word_same PublicWord ts us (NoteMark n) = refl
-word_same PublicWord ts us PublicMark = refl
-word_same PublicWord ts us ProtectedMark = refl
-word_same PublicWord ts us PrivateMark = refl
-word_same PublicWord ts us StaticMark = refl
-word_same PublicWord ts us ConstantMark = refl
-word_same PublicWord ts us AbstractMark = refl
-word_same PrivateWord ts us (NoteMark n) = refl
-word_same PrivateWord ts us PublicMark = refl
-word_same PrivateWord ts us ProtectedMark = refl
-word_same PrivateWord ts us PrivateMark = refl
-word_same PrivateWord ts us StaticMark = refl
-word_same PrivateWord ts us ConstantMark = refl
-word_same PrivateWord ts us AbstractMark = refl
-word_same StaticWord ts us (NoteMark n) = refl
-word_same StaticWord ts us PublicMark = refl
-word_same StaticWord ts us ProtectedMark = refl
-word_same StaticWord ts us PrivateMark = refl
-word_same StaticWord ts us StaticMark = refl
-word_same StaticWord ts us ConstantMark = refl
-word_same StaticWord ts us AbstractMark = refl
-word_same FinalWord ts us (NoteMark n) = refl
-word_same FinalWord ts us PublicMark = refl
-word_same FinalWord ts us ProtectedMark = refl
-word_same FinalWord ts us PrivateMark = refl
-word_same FinalWord ts us StaticMark = refl
-word_same FinalWord ts us ConstantMark = refl
-word_same FinalWord ts us AbstractMark = refl
-word_same AbstractWord ts us (NoteMark n) = refl
-word_same AbstractWord ts us PublicMark = refl
-word_same AbstractWord ts us ProtectedMark = refl
-word_same AbstractWord ts us PrivateMark = refl
-word_same AbstractWord ts us StaticMark = refl
-word_same AbstractWord ts us ConstantMark = refl
-word_same AbstractWord ts us AbstractMark = refl
-
 word_note : (w : Word) (ts : List Token) (n : NameNo) → is_word w (place_mark ts (NoteMark n)) ≡ false
 word_note PublicWord ts n = refl
 word_note PrivateWord ts n = refl
 word_note StaticWord ts n = refl
 word_note FinalWord ts n = refl
 word_note AbstractWord ts n = refl
+
+abbrev IsSameWord : List Token → List Token → Mark → Word → Type 0
+IsSameWord ts us m w = is_word w (place_mark ts m) ≡ is_word w (place_mark us m)
+
+each_word_same : (ts us : List Token) (m : Mark) → IsSameWord ts us m PublicWord × IsSameWord ts us m PrivateWord × IsSameWord ts us m StaticWord × IsSameWord ts us m FinalWord × IsSameWord ts us m AbstractWord
+each_word_same ts us (NoteMark n) = (refl, refl, refl, refl, refl)
+each_word_same ts us PublicMark = (refl, refl, refl, refl, refl)
+each_word_same ts us ProtectedMark = (refl, refl, refl, refl, refl)
+each_word_same ts us PrivateMark = (refl, refl, refl, refl, refl)
+each_word_same ts us StaticMark = (refl, refl, refl, refl, refl)
+each_word_same ts us ConstantMark = (refl, refl, refl, refl, refl)
+each_word_same ts us AbstractMark = (refl, refl, refl, refl, refl)
+
+word_same : (w : Word) (ts us : List Token) (m : Mark) → IsSameWord ts us m w
+word_same PublicWord ts us m = (each_word_same ts us m).0
+word_same PrivateWord ts us m = (each_word_same ts us m).1
+word_same StaticWord ts us m = (each_word_same ts us m).2
+word_same FinalWord ts us m = (each_word_same ts us m).3
+word_same AbstractWord ts us m = (each_word_same ts us m).4
 
 no_word : (w : Word) (ts : List Token) (ns : List NameNo) → has_word w (place_marks ts (map NoteMark ns)) ≡ false
 no_word w ts [] = refl
@@ -189,57 +172,39 @@ use_alone base (Some notes) ts us old new e = ap (λ b. record { base = b; array
 
 -- ---- values and calls
 
-negated_same : (ts us : List Token) (e : Tree) → negated_tree (place ts e) ≡ negated_tree (place us e)
-negated_same ts us (LiteralTree l) = refl
-negated_same ts us (NameTree n) = refl
-negated_same ts us ThisTree = refl
-negated_same ts us (ParenTree e) = refl
-negated_same ts us (FieldTree e n) = refl
-negated_same ts us (CallTree e n es) = refl
-negated_same ts us (OwnCallTree n es) = refl
-negated_same ts us (SuperCallTree n es) = refl
-negated_same ts us (IndexTree e i) = refl
-negated_same ts us (NewTree n es) = refl
-negated_same ts us (NewArrayTree ns b e) = refl
-negated_same ts us (ArrayOfTree ns b es) = refl
-negated_same ts us (PostfixTree e s) = refl
-negated_same ts us (PrefixTree s e) = refl
-negated_same ts us (UnaryTree o e) = refl
-negated_same ts us (CastTree n e) = refl
-negated_same ts us (BinaryTree l o r) = refl
-negated_same ts us (InstanceOfTree e n) = refl
-negated_same ts us (ConditionalTree c a b) = refl
-negated_same ts us (AssignTree l o r) = refl
-
-value_same : (ts us : List Token) (e : Tree) → tree_value (place ts e) ≡ tree_value (place us e)
-value_same ts us (LiteralTree l) = refl
-value_same ts us (NameTree n) = refl
-value_same ts us ThisTree = refl
-value_same ts us (ParenTree e) = refl
-value_same ts us (FieldTree e n) = refl
-value_same ts us (CallTree e n es) = refl
-value_same ts us (OwnCallTree n es) = refl
-value_same ts us (SuperCallTree n es) = refl
-value_same ts us (IndexTree e i) = refl
-value_same ts us (NewTree n es) = refl
-value_same ts us (NewArrayTree ns b e) = refl
-value_same ts us (ArrayOfTree ns b es) = refl
-value_same ts us (PostfixTree e s) = refl
-value_same ts us (PrefixTree s e) = refl
-value_same ts us (UnaryTree MinusSign e) = negated_same (drop 1 ts) (drop 1 us) e
-value_same ts us (UnaryTree PlusSign e) = refl
-value_same ts us (UnaryTree NotSign e) = refl
-value_same ts us (CastTree n e) = refl
-value_same ts us (BinaryTree l o r) = refl
-value_same ts us (InstanceOfTree e n) = refl
-value_same ts us (ConditionalTree c a b) = refl
-value_same ts us (AssignTree l o r) = refl
+-- what an initializer says, and which initializers a field that isn't of a class may have
+pub initializer_same : (ts us : List Token) (e : Tree) →
+    (negated_tree (place ts e) ≡ negated_tree (place us e)) × (tree_value (place ts e) ≡ tree_value (place us e))
+    × (is_number_tree (place ts e) ≡ is_number_tree (place us e)) × (is_int_start (place ts e) ≡ is_int_start (place us e))
+    × (is_truth_start (place ts e) ≡ is_truth_start (place us e))
+initializer_same ts us (LiteralTree l) = (refl, refl, refl, refl, refl)
+initializer_same ts us (NameTree n) = (refl, refl, refl, refl, refl)
+initializer_same ts us ThisTree = (refl, refl, refl, refl, refl)
+initializer_same ts us (ParenTree e) = (refl, refl, refl, refl, refl)
+initializer_same ts us (FieldTree e n) = (refl, refl, refl, refl, refl)
+initializer_same ts us (CallTree e n es) = (refl, refl, refl, refl, refl)
+initializer_same ts us (OwnCallTree n es) = (refl, refl, refl, refl, refl)
+initializer_same ts us (SuperCallTree n es) = (refl, refl, refl, refl, refl)
+initializer_same ts us (IndexTree e i) = (refl, refl, refl, refl, refl)
+initializer_same ts us (NewTree n es) = (refl, refl, refl, refl, refl)
+initializer_same ts us (NewArrayTree ns b e) = (refl, refl, refl, refl, refl)
+initializer_same ts us (ArrayOfTree ns b es) = (refl, refl, refl, refl, refl)
+initializer_same ts us (PostfixTree e s) = (refl, refl, refl, refl, refl)
+initializer_same ts us (PrefixTree s e) = (refl, refl, refl, refl, refl)
+initializer_same ts us (UnaryTree MinusSign e) = let inner = initializer_same (drop 1 ts) (drop 1 us) e in (refl, inner.0, refl, inner.2, refl)
+initializer_same ts us (UnaryTree PlusSign e) = (refl, refl, refl, refl, refl)
+initializer_same ts us (UnaryTree NotSign e) = (refl, refl, refl, refl, refl)
+initializer_same ts us (CastTree n e) = (refl, refl, refl, refl, refl)
+initializer_same ts us (BinaryTree l o r) = (refl, refl, refl, refl, refl)
+initializer_same ts us (InstanceOfTree e n) = (refl, refl, refl, refl, refl)
+initializer_same ts us (ConditionalTree c a b) = (refl, refl, refl, refl, refl)
+initializer_same ts us (AssignTree l o r) = (refl, refl, refl, refl, refl)
 
 first_same : (static : Bool) (ts us : List Token) (e : Option Tree) → first_value static (place_value ts e) ≡ first_value static (place_value us e)
 first_same false ts us None = refl
 first_same false ts us (Some e) = refl
 first_same true ts us None = refl
-first_same true ts us (Some e) = value_same (drop 1 ts) (drop 1 us) e
+first_same true ts us (Some e) = (initializer_same (drop 1 ts) (drop 1 us) e).1
 
 count_same : (ts us : List Token) (es : Trees) → count (place_list ts es) ≡ count (place_list us es)
 count_same ts us NoTrees = refl

@@ -26,11 +26,12 @@ use Rattle.jn_program_law.specs.FileProgram.{inferring, j_rows, program_of_files
 use Rattle.jn_program_law.specs.FileSources.{numbered, sources, type_trees, types_of, unwritten_tree}
 use Rattle.jn_annotate.specs.declared.imports.Package.{Package}
 use Rattle.jn_annotate.specs.Imports.{import_of}
+use Rattle.jn_annotate.proofs.Cursors.{behind_append}
 use Rattle.jn_annotate_law.specs.Trees.{with_imports}
 use Rattle.jn_annotate_law.proofs.AllRows.{none_of_either}
 use Rattle.jn_annotate_law.proofs.NoteRows.{no_rows_left, no_rows_right, no_rows_both}
 use Rattle.jn_annotate_law.proofs.OutsideRows.{behind_same, imports_stay, package_stays, whole_of}
-use Rattle.jn_annotate_law.proofs.Weaves.{behind_append, behind_kinds, taken}
+use Rattle.jn_annotate_law.proofs.Weaves.{behind_kinds, taken}
 
 -- ---- a file's tokens without those of the imports
 

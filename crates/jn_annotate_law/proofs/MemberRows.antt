@@ -12,10 +12,9 @@ use Rattle.jn_points.specs.Members.{some_of}
 use Rattle.jn_points.specs.declared.program.SlotInfo.{SlotInfo}
 use Rattle.jn_trees.specs.declared.token.Token.{Token}
 use Rattle.jn_trees.specs.declared.expression.Annotation.{Annotation}
-use Rattle.jn_trees.specs.Trees.{BaseTree, ClassBase, IntBase, BooleanBase, Tree, LiteralTree, NameTree, ThisTree, ParenTree, FieldTree, CallTree, OwnCallTree, SuperCallTree, IndexTree, NewTree, NewArrayTree, ArrayOfTree, PostfixTree, PrefixTree, UnaryTree, CastTree, BinaryTree, InstanceOfTree, ConditionalTree, AssignTree, TypeUseTree, DeclaratorTree, Mark, NoteMark, PublicMark, ProtectedMark, PrivateMark, StaticMark, ConstantMark, AbstractMark, FieldMember}
-use Rattle.jn_trees.specs.declared.expression.UnaryOperator.TheVariants.{Plus as PlusSign, Minus as MinusSign, Not as NotSign}
+use Rattle.jn_trees.specs.Trees.{BaseTree, ClassBase, IntBase, BooleanBase, Tree, TypeUseTree, DeclaratorTree, Mark, NoteMark, PublicMark, ProtectedMark, PrivateMark, StaticMark, ConstantMark, AbstractMark, FieldMember}
 use Rattle.jn_trees.specs.Spelling.{spell_mark, spell_all_marks, spell_type_use, spell_declarator}
-use Rattle.jn_places.specs.Places.{behind, place, place_base, place_type_use, place_value, place_mark, place_marks, place_declarator, place_next_declarator, spell_next_declarator, place_more_declarators, place_result, place_member}
+use Rattle.jn_places.specs.Places.{behind, place_base, place_type_use, place_value, place_mark, place_marks, place_declarator, place_next_declarator, spell_next_declarator, place_more_declarators, place_result, place_member}
 use Rattle.jn_heads.specs.declared.head.Notes.{Notes}
 use Rattle.jn_heads.specs.declared.head.TypeHead.{TypeHead}
 use Rattle.jn_heads.specs.declared.head.ClassHead.{ClassHead}
@@ -23,88 +22,21 @@ use Rattle.jn_heads.specs.Types.{slot_of, field_qual, written_qual, is_position,
 use Rattle.jn_classtable.specs.Table.{slot_at, result_slot}
 use Rattle.jn_heads.specs.Extract.{modifier_notes, type_head, result_head}
 use Rattle.jn_lowering.specs.Annotations.{Allowed, row, when, both_kinds, of_field, annotation_rows, type_rows, name_row}
-use Rattle.jn_lowering.specs.FileRows.{notes_of, is_static_mark, has_static, without_override, is_number_tree, is_int_start, is_truth_start, starts, all_start, is_primitive_base, is_plain, is_static_start, names_rows, result_rows, head_rows, first_mark}
+use Rattle.jn_lowering.specs.FileRows.{notes_of, is_static_mark, has_static, without_override, starts, all_start, is_primitive_base, is_plain, is_static_start, names_rows, result_rows, head_rows, first_mark}
 use Rattle.jn_annotate.specs.Insertions.{inferred_qual}
 use Rattle.jn_annotate_law.specs.Trees.{nullity_names, both_names, names_of, leading, noted_use, noted_marks, noted_result, noted_result_marks, both_at}
+use Rattle.jn_annotate_law.proofs.Extracting.{initializer_same}
 use Rattle.jn_annotate_law.proofs.Positions.{Stands}
 use Rattle.jn_annotate_law.proofs.NoteRows.{no_rows_left, no_rows_right, no_rows_both, numbers, Clear, clear_of, of_clear, notes_in, name_numbers, nullity_clear, both_clear, mark_numbers, marks_numbers, marks_more}
 use Rattle.jn_annotate_law.proofs.PositionRows.{marks_notes, position_stays, name_stays}
 
 -- ---- initializers of static fields
 
-number_tree_same : (ts us : List Token) (e : Tree) → is_number_tree (place ts e) ≡ is_number_tree (place us e)
-number_tree_same ts us (LiteralTree l) = refl
-number_tree_same ts us (NameTree n) = refl
-number_tree_same ts us ThisTree = refl
-number_tree_same ts us (ParenTree e) = refl
-number_tree_same ts us (FieldTree e n) = refl
-number_tree_same ts us (CallTree e n es) = refl
-number_tree_same ts us (OwnCallTree n es) = refl
-number_tree_same ts us (SuperCallTree n es) = refl
-number_tree_same ts us (IndexTree e i) = refl
-number_tree_same ts us (NewTree n es) = refl
-number_tree_same ts us (NewArrayTree ns b e) = refl
-number_tree_same ts us (ArrayOfTree ns b es) = refl
-number_tree_same ts us (PostfixTree e s) = refl
-number_tree_same ts us (PrefixTree s e) = refl
-number_tree_same ts us (UnaryTree o e) = refl
-number_tree_same ts us (CastTree n e) = refl
-number_tree_same ts us (BinaryTree l o r) = refl
-number_tree_same ts us (InstanceOfTree e n) = refl
-number_tree_same ts us (ConditionalTree c a b) = refl
-number_tree_same ts us (AssignTree l o r) = refl
-
-int_start_same : (ts us : List Token) (e : Tree) → is_int_start (place ts e) ≡ is_int_start (place us e)
-int_start_same ts us (LiteralTree l) = refl
-int_start_same ts us (NameTree n) = refl
-int_start_same ts us ThisTree = refl
-int_start_same ts us (ParenTree e) = refl
-int_start_same ts us (FieldTree e n) = refl
-int_start_same ts us (CallTree e n es) = refl
-int_start_same ts us (OwnCallTree n es) = refl
-int_start_same ts us (SuperCallTree n es) = refl
-int_start_same ts us (IndexTree e i) = refl
-int_start_same ts us (NewTree n es) = refl
-int_start_same ts us (NewArrayTree ns b e) = refl
-int_start_same ts us (ArrayOfTree ns b es) = refl
-int_start_same ts us (PostfixTree e s) = refl
-int_start_same ts us (PrefixTree s e) = refl
-int_start_same ts us (UnaryTree MinusSign e) = number_tree_same (drop 1 ts) (drop 1 us) e
-int_start_same ts us (UnaryTree PlusSign e) = refl
-int_start_same ts us (UnaryTree NotSign e) = refl
-int_start_same ts us (CastTree n e) = refl
-int_start_same ts us (BinaryTree l o r) = refl
-int_start_same ts us (InstanceOfTree e n) = refl
-int_start_same ts us (ConditionalTree c a b) = refl
-int_start_same ts us (AssignTree l o r) = refl
-
-truth_start_same : (ts us : List Token) (e : Tree) → is_truth_start (place ts e) ≡ is_truth_start (place us e)
-truth_start_same ts us (LiteralTree l) = refl
-truth_start_same ts us (NameTree n) = refl
-truth_start_same ts us ThisTree = refl
-truth_start_same ts us (ParenTree e) = refl
-truth_start_same ts us (FieldTree e n) = refl
-truth_start_same ts us (CallTree e n es) = refl
-truth_start_same ts us (OwnCallTree n es) = refl
-truth_start_same ts us (SuperCallTree n es) = refl
-truth_start_same ts us (IndexTree e i) = refl
-truth_start_same ts us (NewTree n es) = refl
-truth_start_same ts us (NewArrayTree ns b e) = refl
-truth_start_same ts us (ArrayOfTree ns b es) = refl
-truth_start_same ts us (PostfixTree e s) = refl
-truth_start_same ts us (PrefixTree s e) = refl
-truth_start_same ts us (UnaryTree o e) = refl
-truth_start_same ts us (CastTree n e) = refl
-truth_start_same ts us (BinaryTree l o r) = refl
-truth_start_same ts us (InstanceOfTree e n) = refl
-truth_start_same ts us (ConditionalTree c a b) = refl
-truth_start_same ts us (AssignTree l o r) = refl
-
 starts_same : (b : BaseTree) (bt bu ts us : List Token) (v : Option Tree) → starts (place_base bt b) (place_value ts v) ≡ starts (place_base bu b) (place_value us v)
 starts_same b bt bu ts us None = refl
 starts_same (ClassBase n) bt bu ts us (Some e) = refl
-starts_same IntBase bt bu ts us (Some e) = int_start_same (drop 1 ts) (drop 1 us) e
-starts_same BooleanBase bt bu ts us (Some e) = truth_start_same (drop 1 ts) (drop 1 us) e
+starts_same IntBase bt bu ts us (Some e) = (initializer_same (drop 1 ts) (drop 1 us) e).3
+starts_same BooleanBase bt bu ts us (Some e) = (initializer_same (drop 1 ts) (drop 1 us) e).4
 
 more_start_same : (b : BaseTree) (bt bu ts us : List Token) (ds : List DeclaratorTree) → all_start (place_base bt b) (place_more_declarators ts ds) ≡ all_start (place_base bu b) (place_more_declarators us ds)
 more_start_same b bt bu ts us [] = refl

@@ -21,8 +21,9 @@ use Rattle.jn_annotate.specs.declared.imports.Package.{Package}
 use Rattle.jn_annotate.specs.Imports.{import_line, import_of, line_end, put_line}
 use Rattle.jn_annotate.specs.Words.{nullity_text, initialization_text, both_texts, initialization_name}
 use Rattle.jn_annotate.specs.Insertions.{fields_in, methods_in, type_fields, type_methods, at_type, at_receiver, first_slot, inferred_qual, at_parameters, at_result, at_member, at_members, in_type, in_types, in_file}
+use Rattle.jn_annotate.proofs.Cursors.{behind_append}
 use Rattle.jn_annotate_law.specs.Trees.{nullity_names, both_names, names_of, leading, noted_use, noted_marks, noted_parameter, noted_receiver, noted_result, noted_result_marks, both_at, noted_parameters, noted_member, noted_members, noted_type, noted_types, noted_file, with_imports}
-use Rattle.jn_annotate_law.proofs.Weaves.{taken, behind_append, annotations_append, behind_kinds, Spells, Weave, weave_nil, weave_same, keep_one, before_type, typed, Part, part_same, keep_part, next}
+use Rattle.jn_annotate_law.proofs.Weaves.{taken, annotations_append, behind_kinds, Spells, Weave, weave_nil, weave_same, keep_one, before_type, typed, Part, part_same, keep_part, next}
 use Rattle.jn_annotate_law.proofs.Notes.{HasKnown, line_end_is, line_is, line_kinds, notes_known, org_note, rest_notes, nullity_spells, init_spells, init_note, both_spells}
 
 -- ---- spelling with more marks

@@ -23,6 +23,7 @@ use Rattle.jn_transfer.specs.Pairs.{override_sends, pair_sends, slot_sends, slot
 use Rattle.jn_places_law.specs.Bare.{Alike, bare, bare_body, bare_field, bare_kind, bare_method, bare_operands, bare_points}
 use Rattle.jn_places_law.proofs.Flow.{own_keys_is}
 use Rattle.jn_places_law.proofs.Lookups.{class_bare, field_info_is, filter_same, is_pair_is, method_at_is, method_in_is, slots_at_is, some_same}
+use Rattle.jn_places_law.proofs.RowForms.{across}
 use Rattle.std.proofs.lemmas.List.{length-map}
 
 -- ---- one list after another
@@ -151,40 +152,32 @@ module _ (P : Program) where
 module _ (P Q : Program) (a : Alike P Q) where
   -- a method without a call site has none in the other program
   pub uncalled_same : (i : ℕ) → uncalled_from P i 0 P.methods ≡ uncalled_from Q i 0 Q.methods
-  uncalled_same i = sym (uncalled_bare P i 0 P.methods) ∙ ap (λ (R : Program). uncalled_from R i 0 R.methods) a ∙ uncalled_bare Q i 0 Q.methods
+  uncalled_same i = across P Q a (λ R. uncalled_from R i 0 R.methods) (λ R. uncalled_bare R i 0 R.methods)
 
   slots_same : (m : ℕ) → slots_of (method_at P m) ≡ slots_of (method_at Q m)
-  slots_same m = sym (slots_at_is P m) ∙ ap (λ (R : Program). slots_of (method_at R m)) a ∙ slots_at_is Q m
+  slots_same m = across P Q a (λ R. slots_of (method_at R m)) (λ R. slots_at_is R m)
 
   field_slot_same : (f : ℕ) → field_slot_of (field_info P f) ≡ field_slot_of (field_info Q f)
-  field_slot_same f =
-      let bared = λ (R : Program). ap field_slot_of (field_info_is R f) ∙ field_slot_bare (field_info R f) in
-      sym (bared P) ∙ ap (λ (R : Program). field_slot_of (field_info R f)) a ∙ bared Q
+  field_slot_same f = across P Q a (λ R. field_slot_of (field_info R f)) (λ R. ap field_slot_of (field_info_is R f) ∙ field_slot_bare (field_info R f))
 
   receiver_same : (m : ℕ) → receiver_slot_of (method_at P m) ≡ receiver_slot_of (method_at Q m)
-  receiver_same m =
-      let bared = λ (R : Program). ap receiver_slot_of (method_at_is R m) ∙ receiver_slot_bare (method_at R m) in
-      sym (bared P) ∙ ap (λ (R : Program). receiver_slot_of (method_at R m)) a ∙ bared Q
+  receiver_same m = across P Q a (λ R. receiver_slot_of (method_at R m)) (λ R. ap receiver_slot_of (method_at_is R m) ∙ receiver_slot_bare (method_at R m))
 
   result_at_same : (m : ℕ) → result_slot_of (method_at P m) ≡ result_slot_of (method_at Q m)
-  result_at_same m =
-      let bared = λ (R : Program). ap result_slot_of (method_at_is R m) ∙ result_slot_bare (method_at R m) in
-      sym (bared P) ∙ ap (λ (R : Program). result_slot_of (method_at R m)) a ∙ bared Q
+  result_at_same m = across P Q a (λ R. result_slot_of (method_at R m)) (λ R. ap result_slot_of (method_at_is R m) ∙ result_slot_bare (method_at R m))
 
   result_in_same : (b : ℕ) → result_slot_of (method_in P b) ≡ result_slot_of (method_in Q b)
-  result_in_same b =
-      let bared = λ (R : Program). ap result_slot_of (method_in_is R b) ∙ result_slot_bare (method_in R b) in
-      sym (bared P) ∙ ap (λ (R : Program). result_slot_of (method_in R b)) a ∙ bared Q
+  result_in_same b = across P Q a (λ R. result_slot_of (method_in R b)) (λ R. ap result_slot_of (method_in_is R b) ∙ result_slot_bare (method_in R b))
 
   keys_same : (b : ℕ) → own_keys P b ≡ own_keys Q b
-  keys_same b = sym (own_keys_is P b) ∙ ap (λ (R : Program). own_keys R b) a ∙ own_keys_is Q b
+  keys_same b = across P Q a (λ R. own_keys R b) (λ R. own_keys_is R b)
 
   methods_long : length P.methods ≡ length Q.methods
-  methods_long = sym (length-map P.methods bare_method) ∙ ap (λ (R : Program). length R.methods) a ∙ length-map Q.methods bare_method
+  methods_long = across P Q a (λ R. length R.methods) (λ R. length-map R.methods bare_method)
 
   under_same : (m : ℕ) → under P m ≡ under Q m
   under_same m =
-      filter_same (is_pair P m) (is_pair Q m) (below (length P.methods)) (λ k. sym (is_pair_is P m k) ∙ ap (λ (R : Program). is_pair R m k) a ∙ is_pair_is Q m k)
+      filter_same (is_pair P m) (is_pair Q m) (below (length P.methods)) (λ k. across P Q a (λ R. is_pair R m k) (λ R. is_pair_is R m k))
       ∙ ap (λ n. filter (is_pair Q m) (below n)) methods_long
 
   -- ---- what goes to a slot that is inferred in the other program

@@ -14,6 +14,7 @@ use Rattle.jn_places.specs.Places.{behind, front}
 use Rattle.jn_splice_law.specs.Inserted.{Insertion}
 use Rattle.jn_splice_law.specs.Woven.{Note, notes_text, notes_kinds, Wording, Notes, SpacedNotes, words_of, kinds_of, Item, Keep, Put, kept, put, woven, AreNotes, IsWording, AreWoven}
 use Rattle.jn_annotate.specs.Insertions.{at_type}
+use Rattle.jn_annotate.proofs.Cursors.{behind_append}
 use Rattle.jn_annotate_law.specs.Trees.{names_of, leading, noted_use}
 
 -- the first of the tokens, as many as these
@@ -22,9 +23,18 @@ taken ts [] = []
 taken [] (k ∷ ks) = []
 taken (t ∷ ts) (k ∷ ks) = t ∷ taken ts ks
 
-pub behind_append : (ts : List Token) (ks ls : List TokenKind) → behind ts (ks ++ ls) ≡ behind (behind ts ks) ls
-behind_append ts [] ls = refl
-behind_append ts (k ∷ ks) ls = behind_append (drop 1 ts) ks ls
+taken_append : (ts : List Token) (ks ls : List TokenKind) → taken ts (ks ++ ls) ≡ taken ts ks ++ taken (behind ts ks) ls
+taken_append ts [] ls = refl
+taken_append [] (k ∷ ks) ls = nothing ks ls
+  where
+    none : (ks : List TokenKind) → behind [] ks ≡ []
+    none [] = refl
+    none (k ∷ ks) = none ks
+
+    nothing : (ks ls : List TokenKind) → [] ≡ [] ++ taken (behind [] ks) ls
+    nothing ks [] = refl
+    nothing ks (l ∷ ls) = sym (ap (λ x. taken x (l ∷ ls)) (none ks))
+taken_append (t ∷ ts) (k ∷ ks) ls = ap (λ x. t ∷ x) (taken_append ts ks ls)
 
 pub behind_kinds : (ts : List Token) (ks ls : List TokenKind) → kinds ts ≡ ks ++ ls → kinds (behind ts ks) ≡ ls
 behind_kinds ts [] ls e = e
@@ -103,19 +113,6 @@ module _ (text : List ℕ) (old : List (List ℕ)) where
         weave_same before (t ∷ ts) (record { at = t.span.from; words = codes " " ++ notes_text (sp.note ∷ sp.more) } ∷ is) (record { at = t.span.from; words = codes " " ++ txt q } ∷ is) (notes_kinds (sp.note ∷ sp.more) ++ t.kind ∷ new) (spell_annotations (nms q) ++ k ∷ new)
         (ap (λ x. record { at = t.span.from; words = codes " " ++ x } ∷ is) (sym sp.text_is)) (ap (λ x. x ++ t.kind ∷ new) sp.kinds_is ∙ ap (λ x. spell_annotations (nms q) ++ x ∷ new) head) r
 
-    pub taken_append : (ts : List Token) (ks ls : List TokenKind) → taken ts (ks ++ ls) ≡ taken ts ks ++ taken (behind ts ks) ls
-    taken_append ts [] ls = refl
-    taken_append [] (k ∷ ks) ls = nothing ks ls
-      where
-        none : (ks : List TokenKind) → behind [] ks ≡ []
-        none [] = refl
-        none (k ∷ ks) = none ks
-
-        nothing : (ks ls : List TokenKind) → [] ≡ [] ++ taken (behind [] ks) ls
-        nothing ks [] = refl
-        nothing ks (l ∷ ls) = sym (ap (λ x. taken x (l ∷ ls)) (none ks))
-    taken_append (t ∷ ts) (k ∷ ks) ls = ap (λ x. t ∷ x) (taken_append ts ks ls)
-
     pub typed : (base : BaseTree) (array : Option (List NameNo)) (q : Option Qualifier) (before ts : List Token) (is : List Insertion) (ls new : List TokenKind) → let u : TypeUseTree = record { base = base; array = array } in kinds ts ≡ spell_type_use u ++ ls → Weave (before ++ taken ts (spell_type_use u)) (behind ts (spell_type_use u)) is new → Weave before ts (at_type txt ts u q ++ is) ((spell_annotations (leading (names_of nms q) array) ++ spell_type_use (noted_use (names_of nms q) u)) ++ new)
     typed base None None before ts is ls new e w = keep (base_token base ∷ []) before ts is ls new e w
     typed base None (Some q) before ts is ls new e w =
@@ -157,26 +154,13 @@ module _ (text : List ℕ) (old : List (List ℕ)) where
     pub keep_part : (sp : List TokenKind) → Part C sp (λ ts. []) sp
     keep_part sp before ts ls rest more h e w = keep sp before ts more ls rest e w
 
-    pub taken_two : (ts : List Token) (ks ls : List TokenKind) → taken ts (ks ++ ls) ≡ taken ts ks ++ taken (behind ts ks) ls
-    taken_two ts [] ls = refl
-    taken_two [] (k ∷ ks) ls = nothing ks ls
-      where
-        none : (ks : List TokenKind) → behind [] ks ≡ []
-        none [] = refl
-        none (k ∷ ks) = none ks
-
-        nothing : (ks ls : List TokenKind) → [] ≡ [] ++ taken (behind [] ks) ls
-        nothing ks [] = refl
-        nothing ks (l ∷ ls) = sym (ap (λ x. taken x (l ∷ ls)) (none ks))
-    taken_two (t ∷ ts) (k ∷ ks) ls = ap (λ x. t ∷ x) (taken_two ts ks ls)
-
     pub next : (stays : (before more : List Token) → C before → C (before ++ more)) (sp tp : List TokenKind) (is js : List Token → List Insertion) (new others : List TokenKind) → Part C sp is new → Part C tp js others → Part C (sp ++ tp) (λ ts. is ts ++ js (behind ts sp)) (new ++ others)
     next stays sp tp is js new others f g before ts ls rest more h e w =
         let old_kinds : kinds ts ≡ sp ++ (tp ++ ls) = e ∙ append_assoc sp tp ls in
         let mid : List Token = behind ts sp in
         let one : List Token = before ++ taken ts sp in
         let at_end : Weave (one ++ taken mid tp) (behind mid tp) more rest =
-        subst (λ x. Weave x (behind mid tp) more rest) (ap (λ x. before ++ x) (taken_two ts sp tp) ∙ sym (append_assoc before (taken ts sp) (taken mid tp)))
+        subst (λ x. Weave x (behind mid tp) more rest) (ap (λ x. before ++ x) (taken_append ts sp tp) ∙ sym (append_assoc before (taken ts sp) (taken mid tp)))
         (subst (λ x. Weave (before ++ taken ts (sp ++ tp)) x more rest) (behind_append ts sp tp) w) in
         let second = g one mid ls rest more (stays before (taken ts sp) h) (behind_kinds ts sp (tp ++ ls) old_kinds) at_end in
         let first = f before ts (tp ++ ls) (others ++ rest) (js mid ++ more) h old_kinds second in

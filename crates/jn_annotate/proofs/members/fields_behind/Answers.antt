@@ -7,5 +7,5 @@ use Rattle.jn_annotate.proofs.members.fields_behind.Goals as goal
 
 pub returns-in-Field : goal.returns-in-Field
 returns-in-Field c =
-    field_drop c.args.fields.now c.later_fields.result.now c.later_fields-in-Field.result.now c.in-Field.more.items c.len.result c.later_fields.ensures (c.len.ensures ∙ c.in-Field.more.ok.0) c.later_fields-in-Field.ensures
+    field_drop c.args.fields.now c.items_behind.result.now c.items_behind-in-Field.result.now c.in-Field.more.items c.len.result c.items_behind.ensures (c.len.ensures ∙ c.in-Field.more.ok.0) c.items_behind-in-Field.ensures
     ∙ ap (λ (m : Member). drop (fields_in (member_view m)) c.args.fields.now) (sym c.in-Field.is)
