@@ -1,18 +1,15 @@
 -- What the words of `nullcheck_cert` mean: NAME [--infer CHOICE] CERT FILE.., where NAME is a command's.
 use Rattle.std.specs.Prelude.{ℕ, List, [], ◌∷◌, Option, Some, None, codes, if◌then◌else◌}
 use Rattle.std.specs.Str.{bytes_eq}
-use Rattle.clap.specs.Words.{App, Row, first_of, matches_of}
+use Rattle.clap.specs.Words.{App, matches_of}
 use Rattle.jn_base.specs.declared.infer.Infer.{Infer}
-use Rattle.jn_cli.specs.Tables.{app_with, infer_of, is_chosen, names_in, table, takes}
-use Rattle.jn_cli.specs.declared.cert.Options.{Options}
+use Rattle.jn_cli.specs.Names.{names_app, options_in}
+use Rattle.jn_cli.specs.Tables.{infer_of, is_chosen, takes}
+use Rattle.jn_cli.specs.declared.names.Options.{Options}
 
 -- the command as clap sees it: an option, and names
-unfoldable pub cert_app : App
-cert_app = app_with (table (codes "nullcheck_cert") (codes "infer" ∷ []) [])
-
--- the option and the names among what clap matched
-abbrev pub options_in : List Row → Options
-options_in rows = record { infer = first_of (codes "infer") rows; names = names_in rows }
+abbrev pub cert_app : App
+cert_app = names_app (codes "nullcheck_cert")
 
 -- a certificate, the files that it is of, and the choice of members that are inferred
 pub record Command : Type 0 where

@@ -1,5 +1,6 @@
 pub mod Annotate
 pub mod Cert
+pub mod Names
 pub mod Recheck
 pub mod Refused
 pub mod Server

@@ -1,18 +1,15 @@
 -- What the words of `nullcheck_recheck` mean: [--infer NAME] SCRIPT.
 use Rattle.std.specs.Prelude.{ℕ, List, [], ◌∷◌, Option, Some, None, codes, if◌then◌else◌}
-use Rattle.clap.specs.Words.{App, Row, first_of, matches_of}
+use Rattle.clap.specs.Words.{App, matches_of}
 use Rattle.jn_base.specs.declared.infer.Infer.{Infer}
-use Rattle.jn_cli.specs.Tables.{app_with, infer_of, is_chosen, names_in, table, takes}
+use Rattle.jn_cli.specs.Names.{names_app, options_in}
+use Rattle.jn_cli.specs.Tables.{infer_of, is_chosen, takes}
+use Rattle.jn_cli.specs.declared.names.Options.{Options}
 use Rattle.jn_cli.specs.declared.recheck.AskedFor.{AskedFor}
-use Rattle.jn_cli.specs.declared.recheck.Options.{Options}
 
 -- the command as clap sees it: an option, and names
-unfoldable pub recheck_app : App
-recheck_app = app_with (table (codes "nullcheck_recheck") (codes "infer" ∷ []) [])
-
--- the option and the names among what clap matched
-abbrev pub options_in : List Row → Options
-options_in rows = record { infer = first_of (codes "infer") rows; names = names_in rows }
+abbrev pub recheck_app : App
+recheck_app = names_app (codes "nullcheck_recheck")
 
 -- a script, and the members that are inferred in its checks
 abbrev pub asking : Infer → List ℕ → AskedFor

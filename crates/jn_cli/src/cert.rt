@@ -1,20 +1,13 @@
 //! What the words of `nullcheck_cert` ask for.
-ghost use Rattle.std.specs.Prelude.{◌≡◌, None, Some, map, string_bytes, true, false, IfOk, MatchOption};
-ghost use Rattle.clap.specs.Words.{found_of, matches_of, rows_of};
+ghost use Rattle.std.specs.Prelude.{◌≡◌, None, Some, map, string_bytes, IfOk, MatchOption};
 ghost use Rattle.jn_cli.specs.Cert as spec;
 ghost use Rattle.jn_cli.specs.Refused.{IfRefused};
-ghost use Rattle.jn_cli.specs.Tables as tables;
 
 use crate::command::Usage;
 use crate::infer::{infer_of, is_chosen};
-use crate::table::{Table, names_in, take_words, text_of};
-use clap::ArgMatches;
-use jn_base::{Fail, Infer, OutOfMemory, Seq, Text};
+use crate::names::{Options, read_options};
+use jn_base::{Fail, Infer, Text};
 use std::alloc::{AllocError, Global};
-
-static VALUES: [&str; 1] = ["infer"];
-
-static FLAGS: [&str; 0] = [];
 
 /// A certificate, the files that it is of, and the choice of members that are inferred.
 #[derive(Drop)]
@@ -25,49 +18,6 @@ pub struct CertCommand {
     pub cert: String,
     /// The files' names; at least one.
     pub files: Vec<String>,
-}
-
-/// The choice, where one is given, and the names.
-#[derive(Drop)]
-pub struct Options {
-    pub infer: Option<Text>,
-    pub names: Seq<Text>,
-}
-
-/// The options of `nullcheck_cert`.
-pub(crate) fn cert_table() -> Table<'static>
-    ensures { tables.app_with (tables.table_of result) ≡ spec.cert_app }
-{
-    Table {
-        program: "nullcheck_cert",
-        values: VALUES.as_slice(),
-        flags: FLAGS.as_slice(),
-    }
-}
-
-fn read_options(alloc: Global, words: &[String]) -> Result<Options, Fail<Usage>>
-    ensures taken { IfOk result (λ o. tables.takes spec.cert_app (map string_bytes words.now) ≡ true) }
-    ensures ok { IfOk result
-        (λ o. o ≡ spec.options_in (matches_of spec.cert_app (map string_bytes words.now))) }
-    ensures usage { IfRefused result
-        (tables.takes spec.cert_app (map string_bytes words.now) ≡ false) }
-{
-    match take_words(alloc, cert_table(), words) {
-        Err(fail) => Err(fail),
-        Ok(matches) => match options_in(alloc, &matches) {
-            Err(OutOfMemory) => Err(Fail::OutOfMemory),
-            Ok(options) => Ok(options),
-        },
-    }
-}
-
-pub(crate) fn options_in(alloc: Global, matches: &ArgMatches) -> Result<Options, OutOfMemory>
-    ensures { IfOk result (λ o. o ≡ spec.options_in (rows_of (found_of matches.now))) }
-{
-    Ok(Options {
-        infer: text_of(alloc, matches, "infer")?,
-        names: names_in(alloc, matches)?,
-    })
 }
 
 /// The texts as strings.
@@ -151,7 +101,7 @@ pub fn read_cert(alloc: Global, first: &str, words: &[String]) -> Result<CertCom
         ≡ Some (spec.command c.infer (string_bytes c.cert) (map string_bytes c.files.items))) }
     ensures usage { IfRefused result (spec.asked_of first.now (map string_bytes words.now) ≡ None) }
 {
-    let options = match read_options(alloc, words) {
+    let options = match read_options(alloc, "nullcheck_cert", words) {
         Err(fail) => return Err(fail),
         Ok(options) => options,
     };

@@ -9,6 +9,7 @@ pub mod annotate;
 pub mod cert;
 pub mod command;
 mod infer;
+mod names;
 mod number;
 mod options;
 mod parse;

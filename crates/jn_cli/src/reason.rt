@@ -3,12 +3,11 @@
 //! Each reason is one line without its end: the word that isn't taken, or what is missing, what may stand there, or what doesn't go
 //! together. Of words that do ask for something it says nothing that is of use.
 use crate::annotate::{self, annotate_table, are_many};
-use crate::cert::{self, cert_table};
 use crate::infer::is_chosen;
+use crate::names::{self, names_table};
 use crate::number::fits;
 use crate::options::Options;
 use crate::parse::{nullcheck_table, options_in};
-use crate::recheck::{self, recheck_table};
 use crate::server::{self, server_table};
 use crate::table::{Table, command};
 use clap::ArgMatches;
@@ -161,7 +160,7 @@ fn names_sentence(names: &[Text]) -> &'static str {
 }
 
 /// Why the options and names of `nullcheck_cert` are no command's.
-fn cert_sentence(options: &cert::Options) -> &'static str {
+fn cert_sentence(options: &names::Options) -> &'static str {
     if is_chosen(&options.infer) {
         names_sentence(options.names.as_slice())
     } else {
@@ -174,17 +173,17 @@ fn cert_sentence(options: &cert::Options) -> &'static str {
 /// # Errors
 /// No memory was found.
 pub fn cert_reason(alloc: Global, words: &[String]) -> Result<String, OutOfMemory> {
-    match hear(alloc, cert_table(), words)? {
+    match hear(alloc, names_table("nullcheck_cert"), words)? {
         Heard::Untaken(line) => Ok(line),
         Heard::Taken(matches) => {
-            let options = cert::options_in(alloc, &matches)?;
+            let options = names::options_in(alloc, &matches)?;
             Ok(String::from_str(alloc, cert_sentence(&options))?)
         }
     }
 }
 
 /// Why the options and names of `nullcheck_recheck` ask for nothing.
-fn recheck_sentence(options: &recheck::Options) -> &'static str {
+fn recheck_sentence(options: &names::Options) -> &'static str {
     if !is_chosen(&options.infer) {
         return INFER;
     }
@@ -200,10 +199,10 @@ fn recheck_sentence(options: &recheck::Options) -> &'static str {
 /// # Errors
 /// No memory was found.
 pub fn recheck_reason(alloc: Global, words: &[String]) -> Result<String, OutOfMemory> {
-    match hear(alloc, recheck_table(), words)? {
+    match hear(alloc, names_table("nullcheck_recheck"), words)? {
         Heard::Untaken(line) => Ok(line),
         Heard::Taken(matches) => {
-            let options = recheck::options_in(alloc, &matches)?;
+            let options = names::options_in(alloc, &matches)?;
             Ok(String::from_str(alloc, recheck_sentence(&options))?)
         }
     }

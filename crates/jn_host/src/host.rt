@@ -43,6 +43,11 @@ impl<'a, R: Env + Alloc<A = Global> + Eprint> Host<'a, R> {
         Host { rt, name }
     }
 
+    /// What the program runs on.
+    pub fn rt(&self) -> &'a R {
+        self.rt
+    }
+
     /// Says a line.
     pub fn say<D: Display + Drop>(&self, line: D) {
         let name = self.name;
@@ -62,18 +67,30 @@ impl<'a, R: Env + Alloc<A = Global> + Eprint> Host<'a, R> {
         }
     }
 
+    /// Says what can't be done with a file, how the file is then, and why.
+    pub fn cannot(&self, call: &str, name: &Option<String>, state: &str, reason: io::Error) {
+        let name = match name {
+            Some(name) => name.as_str(),
+            None => "a file",
+        };
+        self.say(format_args!("can't {call} {name}{state}: {reason}"));
+    }
+
+    /// Says which file is to be removed, where one stands in the way.
+    pub fn in_the_way(&self, file: &Option<String>) {
+        if let Some(file) = file {
+            let file = file.as_str();
+            self.say(format_args!("{file} stands in the way: remove it"));
+        }
+    }
+
     /// Says which file couldn't be opened or read, and why.
     pub fn cannot_read(&self, fault: Option<&HostFault>) {
         let Some(fault) = fault else {
             return self.say("a file can't be read");
         };
-        let name = match &fault.name {
-            Some(name) => name.as_str(),
-            None => "a file",
-        };
         let call = if fault.opening { "open" } else { "read" };
-        let reason = fault.reason;
-        self.say(format_args!("can't {call} {name}: {reason}"));
+        self.cannot(call, &fault.name, "", fault.reason);
     }
 
     /// Says why standard input can't be read.

@@ -15,11 +15,11 @@ use std::thread::Threads;
 
 /// Does what the words ask for, and says what went wrong. The reporters are made here, of which a command takes one by its name.
 fn done<R: Threads + Sync>(
-    rt: &HostRuntime,
     threads: &R,
     host: &Host<HostRuntime>,
     words: &[String],
 ) -> Result<Status, AllocError> {
+    let rt = host.rt();
     let alloc = rt.alloc();
     let mut reporters: Vec<Box<dyn Reporter>> = Vec::new(alloc);
     reporters.push(Box::new(alloc, Plain::new(alloc))?)?;
@@ -51,7 +51,7 @@ fn main(rt: HostRuntime) -> ExitCode {
         Ok(words) => words,
         Err(none) => return ExitCode::from(none.number()),
     };
-    match done(&rt, &rt, &host, &words) {
+    match done(&rt, &host, &words) {
         Ok(status) => ExitCode::from(status.number()),
         Err(AllocError) => {
             host.no_memory();

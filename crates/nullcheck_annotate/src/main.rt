@@ -5,25 +5,11 @@ use jn_cli::annotate_reason;
 use jn_host::Host;
 use jn_outside::{HostFiles, HostSink};
 use jn_sharing::Straight;
-use jn_targets::{HostTargets, TargetFault};
+use jn_targets::HostTargets;
 use nullcheck_annotate_top::{Status, annotate_files};
 use std::io;
 use std::process::ExitCode;
 use std::thread::Threads;
-
-/// Says which file couldn't be replaced, why, and what to remove where something stands in the way.
-fn say_target(host: &Host<HostRuntime>, fault: &TargetFault) {
-    let name = match &fault.name {
-        Some(name) => name.as_str(),
-        None => "a file",
-    };
-    let reason = fault.reason;
-    host.say(format_args!("can't replace {name}, which is as it was: {reason}"));
-    if let Some(left) = &fault.left {
-        let left = left.as_str();
-        host.say(format_args!("{left} stands in the way: remove it"));
-    }
-}
 
 /// Says which files were replaced before.
 fn say_replaced(host: &Host<HostRuntime>, names: &[String]) {
@@ -36,7 +22,7 @@ fn say_replaced(host: &Host<HostRuntime>, names: &[String]) {
     }
 }
 
-/// Says why the output can't be written, or which files were replaced before one that can't be.
+/// Says why the output can't be written; or which file can't be replaced, why, and which ones were replaced before.
 fn say_written(
     host: &Host<HostRuntime>,
     reason: Option<io::Error>,
@@ -44,7 +30,8 @@ fn say_written(
 ) {
     match targets.fault() {
         Some(fault) => {
-            say_target(host, fault);
+            host.cannot("replace", &fault.name, ", which is as it was", fault.reason);
+            host.in_the_way(&fault.left);
             say_replaced(host, targets.names());
         }
         None => host.cannot_write(reason),
@@ -52,12 +39,8 @@ fn say_written(
 }
 
 /// Does what the words ask for, and says what went wrong.
-fn done<R: Threads + Sync>(
-    rt: &HostRuntime,
-    threads: &R,
-    host: &Host<HostRuntime>,
-    words: &[String],
-) -> Status {
+fn done<R: Threads + Sync>(threads: &R, host: &Host<HostRuntime>, words: &[String]) -> Status {
+    let rt = host.rt();
     let alloc = rt.alloc();
     let mut files = HostFiles::new(rt, alloc);
     let mut out = HostSink::new(rt);
@@ -84,7 +67,7 @@ fn done<R: Threads + Sync>(
 fn main(rt: HostRuntime) -> ExitCode {
     let host = Host::new(&rt, "nullcheck_annotate");
     match host.words() {
-        Ok(words) => ExitCode::from(done(&rt, &rt, &host, &words).number()),
+        Ok(words) => ExitCode::from(done(&rt, &host, &words).number()),
         Err(none) => ExitCode::from(none.number()),
     }
 }

@@ -9,27 +9,12 @@ use jn_cli::{cert_reason, read_cert};
 use jn_host::Host;
 use jn_outside::{HostFiles, HostSink};
 use jn_sharing::Straight;
-use jn_targets::{HostTargets, TargetFault};
+use jn_targets::HostTargets;
 use nullcheck_cert_check::{Status, check};
 use nullcheck_cert_write::write_cert;
-use std::alloc::Global;
 use std::io;
 use std::process::ExitCode;
 use std::thread::Threads;
-
-/// Says why a file can't be stored, and what to remove where something stands in the way.
-fn say_store(host: &Host<HostRuntime>, fault: &TargetFault) {
-    let name = match &fault.name {
-        Some(name) => name.as_str(),
-        None => "a file",
-    };
-    let reason = fault.reason;
-    host.say(format_args!("can't write {name}: {reason}"));
-    if let Some(left) = &fault.left {
-        let left = left.as_str();
-        host.say(format_args!("{left} stands in the way: remove it"));
-    }
-}
 
 /// Says why the output can't be written, or the file that was to be stored.
 fn say_write(
@@ -38,7 +23,10 @@ fn say_write(
     target: &HostTargets<HostRuntime>,
 ) {
     match target.fault() {
-        Some(fault) => say_store(host, fault),
+        Some(fault) => {
+            host.cannot("write", &fault.name, "", fault.reason);
+            host.in_the_way(&fault.left);
+        }
         None => host.cannot_write(reason),
     }
 }
@@ -52,21 +40,21 @@ fn say_read(host: &Host<HostRuntime>, files: &InputFiles<HostRuntime>) {
 }
 
 /// Says what went wrong, where the status is none of a verdict and of no fault.
-fn say_other(host: &Host<HostRuntime>, alloc: Global, status: Status, words: &[String]) {
+fn say_other(host: &Host<HostRuntime>, status: Status, words: &[String]) {
     match status {
         Status::OutOfMemory => host.no_memory(),
-        Status::Usage => host.refused(cert_reason(alloc, words)),
+        Status::Usage => host.refused(cert_reason(host.rt().alloc(), words)),
         _ => {}
     }
 }
 
 /// Writes the certificate that the words ask for, and says why it can't.
 fn done_write<R: Threads + Sync>(
-    rt: &HostRuntime,
     threads: &R,
     host: &Host<HostRuntime>,
     words: &[String],
 ) -> Status {
+    let rt = host.rt();
     let alloc = rt.alloc();
     let mut files = HostFiles::new(rt, alloc);
     let mut out = HostSink::new(rt);
@@ -83,18 +71,18 @@ fn done_write<R: Threads + Sync>(
     match status {
         Status::ReadFault => host.cannot_read(files.fault()),
         Status::WriteFault => say_write(host, out.fault(), &target),
-        _ => say_other(host, alloc, status, words),
+        _ => say_other(host, status, words),
     }
     status
 }
 
 /// Checks the certificate that the words name, which is the standard input where they say `-`, and says why it can't.
 fn done_check<R: Threads + Sync>(
-    rt: &HostRuntime,
     threads: &R,
     host: &Host<HostRuntime>,
     words: &[String],
 ) -> Status {
+    let rt = host.rt();
     let alloc = rt.alloc();
     let mut files = InputFiles::new(rt, alloc);
     let mut out = HostSink::new(rt);
@@ -102,21 +90,16 @@ fn done_check<R: Threads + Sync>(
     match status {
         Status::ReadFault => say_read(host, &files),
         Status::WriteFault => host.cannot_write(out.fault()),
-        _ => say_other(host, alloc, status, words),
+        _ => say_other(host, status, words),
     }
     status
 }
 
 /// Does what the words ask for.
-fn done<R: Threads + Sync>(
-    rt: &HostRuntime,
-    threads: &R,
-    host: &Host<HostRuntime>,
-    words: &[String],
-) -> Status {
-    match read_cert(rt.alloc(), "write", words) {
-        Ok(_command) => done_write(rt, threads, host, words),
-        Err(Fail::Refused(_)) => done_check(rt, threads, host, words),
+fn done<R: Threads + Sync>(threads: &R, host: &Host<HostRuntime>, words: &[String]) -> Status {
+    match read_cert(host.rt().alloc(), "write", words) {
+        Ok(_command) => done_write(threads, host, words),
+        Err(Fail::Refused(_)) => done_check(threads, host, words),
         Err(Fail::OutOfMemory) => {
             host.no_memory();
             Status::OutOfMemory
@@ -127,7 +110,7 @@ fn done<R: Threads + Sync>(
 fn main(rt: HostRuntime) -> ExitCode {
     let host = Host::new(&rt, "nullcheck_cert");
     match host.words() {
-        Ok(words) => ExitCode::from(done(&rt, &rt, &host, &words).number()),
+        Ok(words) => ExitCode::from(done(&rt, &host, &words).number()),
         Err(none) => ExitCode::from(none.number()),
     }
 }

@@ -10,12 +10,8 @@ use std::process::ExitCode;
 use std::thread::Threads;
 
 /// Carries out the script that the words name, and says what went wrong.
-fn done<R: Threads + Sync>(
-    rt: &HostRuntime,
-    threads: &R,
-    host: &Host<HostRuntime>,
-    words: &[String],
-) -> Status {
+fn done<R: Threads + Sync>(threads: &R, host: &Host<HostRuntime>, words: &[String]) -> Status {
+    let rt = host.rt();
     let alloc = rt.alloc();
     let mut files = HostFiles::new(rt, alloc);
     let mut out = HostSink::new(rt);
@@ -33,7 +29,7 @@ fn done<R: Threads + Sync>(
 fn main(rt: HostRuntime) -> ExitCode {
     let host = Host::new(&rt, "nullcheck_recheck");
     match host.words() {
-        Ok(words) => ExitCode::from(done(&rt, &rt, &host, &words).number()),
+        Ok(words) => ExitCode::from(done(&rt, &host, &words).number()),
         Err(none) => ExitCode::from(none.number()),
     }
 }

@@ -1,7 +1,0 @@
-use Rattle.std.proofs.Common.{◌∙◌, ap}
-use Rattle.clap.specs.Words.{is_simple_and_free}
-use Rattle.jn_cli.proofs.Simple.{cert_free}
-use Rattle.jn_cli.proofs.cert.read_options.Goals as goal
-
-pub take_words-requires : goal.take_words-requires
-take_words-requires c = record { simple = ap is_simple_and_free c.cert_table.ensures ∙ cert_free }
