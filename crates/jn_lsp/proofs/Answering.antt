@@ -1,5 +1,5 @@
 -- Each request is answered once.
-use Rattle.std.proofs.Common.{◌≡◌, ℕ, Bool, true, false, List, [], ◌∷◌, ◌++◌, append-nil, cond, Option, Some, None, refl, sym, ap, ◌∙◌, subst, inl, inr}
+use Rattle.std.proofs.Common.{◌≡◌, ◌⊎◌, ℕ, Bool, true, false, List, [], ◌∷◌, ◌++◌, append-nil, cond, Option, Some, None, refl, sym, ap, ◌∙◌, subst, inl, inr}
 use Rattle.std.specs.Prelude.{option_to_list}
 use Rattle.std.proofs.lemmas.Grind.{flat_map-append}
 use Rattle.jn_base.specs.declared.infer.Infer.{Infer}
@@ -7,6 +7,7 @@ use Rattle.jn_lsp_text.specs.declared.id.Id.{Id}
 use Rattle.jn_lsp_text.specs.declared.message.Message.{Message}
 use Rattle.jn_lsp_text.specs.declared.message.Message.TheVariants.{Initialize, Initialized, DidOpen, DidChange, DidSave, DidClose, WatchedFiles, ChangedFolders, CodeAction, InlayHint, Hover as HoverAsked, Shutdown, Exit, Ignored, Unknown, BadDocument, BadParams, NoMessage, NoJson, BadHeader, TooLarge}
 use Rattle.jn_lsp_text.specs.declared.reply.Action.{Action}
+use Rattle.jn_lsp_text.specs.declared.reply.Diagnostic.{Diagnostic}
 use Rattle.jn_lsp_text.specs.declared.reply.Failure.{Failure}
 use Rattle.jn_lsp_text.specs.declared.markup.Markup.{Markup}
 use Rattle.jn_lsp_text.specs.declared.reply.Hint.{Hint}
@@ -19,7 +20,7 @@ use Rattle.jn_lsp.specs.declared.event.Event.{Event}
 use Rattle.jn_lsp.specs.declared.event.Event.TheVariants.{Folder, Message as MessageEvent}
 use Rattle.jn_lsp.specs.declared.phase.Phase.{Phase}
 use Rattle.jn_lsp.specs.declared.phase.Phase.TheVariants.{Waiting, Serving, ShutDown, Exited}
-use Rattle.jn_lsp.specs.Publications.{ArePublished, gone}
+use Rattle.jn_lsp.specs.Publications.{ArePublished, gone, last_published}
 use Rattle.jn_lsp.specs.Requests.{AreAnswered, id_answered, id_asked, id_in, ids_answered, ids_asked, is_exit}
 use Rattle.jn_lsp.specs.Unknown.{doubts_in}
 use Rattle.jn_lsp.proofs.Hushing.{doubts_unasked}
@@ -48,74 +49,41 @@ refused : (failure : Failure) (id : Option Id) → IsAnswer (refusal failure id)
 refused failure None = refl
 refused failure (Some id) = refl
 
-waiting_one : (message : Message) → IsAnswer (waiting_answer message) (id_asked message)
-waiting_one (Initialize id folders infer files exclude markup encoding progress) = refl
-waiting_one Initialized = refl
-waiting_one (DidOpen name version text) = refl
-waiting_one (DidChange name version changes) = refl
-waiting_one (DidSave name) = refl
-waiting_one (DidClose name) = refl
-waiting_one WatchedFiles = refl
-waiting_one (ChangedFolders added removed) = refl
-waiting_one (CodeAction id name range) = refl
-waiting_one (InlayHint id name range) = refl
-waiting_one (HoverAsked id name position) = refl
-waiting_one (Shutdown id) = refl
-waiting_one Exit = refl
-waiting_one Ignored = refl
-waiting_one (Unknown id) = refl
-waiting_one (BadDocument name) = refl
-waiting_one (BadParams id) = refused _ id
-waiting_one NoMessage = refl
-waiting_one NoJson = refl
-waiting_one BadHeader = refl
-waiting_one TooLarge = refl
+module _ (name : List ℕ) (last : List Diagnostic) where
+  -- it publishes nothing
+  abbrev pub IsSilent : Option Reply → Type 0
+  IsSilent reply = last_published name last (option_to_list reply) ≡ last
 
-serving_one : (markup : Markup) (actions : List Action) (hints : List Hint) (hover : Option Hover) (message : Message) → IsAnswer (serving_answer markup actions hints hover message) (id_asked message)
-serving_one markup actions hints hover (Initialize id folders infer files exclude other encoding progress) = refl
-serving_one markup actions hints hover Initialized = refl
-serving_one markup actions hints hover (DidOpen name version text) = refl
-serving_one markup actions hints hover (DidChange name version changes) = refl
-serving_one markup actions hints hover (DidSave name) = refl
-serving_one markup actions hints hover (DidClose name) = refl
-serving_one markup actions hints hover WatchedFiles = refl
-serving_one markup actions hints hover (ChangedFolders added removed) = refl
-serving_one markup actions hints hover (CodeAction id name range) = refl
-serving_one markup actions hints hover (InlayHint id name range) = refl
-serving_one markup actions hints hover (HoverAsked id name position) = refl
-serving_one markup actions hints hover (Shutdown id) = refl
-serving_one markup actions hints hover Exit = refl
-serving_one markup actions hints hover Ignored = refl
-serving_one markup actions hints hover (Unknown id) = refl
-serving_one markup actions hints hover (BadDocument name) = refl
-serving_one markup actions hints hover (BadParams id) = refused _ id
-serving_one markup actions hints hover NoMessage = refl
-serving_one markup actions hints hover NoJson = refl
-serving_one markup actions hints hover BadHeader = refl
-serving_one markup actions hints hover TooLarge = refl
+  refusal_silent : (failure : Failure) (id : Option Id) → IsSilent (refusal failure id)
+  refusal_silent failure None = refl
+  refusal_silent failure (Some id) = refl
 
-late_one : (message : Message) → IsAnswer (late_answer message) (id_asked message)
-late_one (Initialize id folders infer files exclude markup encoding progress) = refl
-late_one Initialized = refl
-late_one (DidOpen name version text) = refl
-late_one (DidChange name version changes) = refl
-late_one (DidSave name) = refl
-late_one (DidClose name) = refl
-late_one WatchedFiles = refl
-late_one (ChangedFolders added removed) = refl
-late_one (CodeAction id name range) = refl
-late_one (InlayHint id name range) = refl
-late_one (HoverAsked id name position) = refl
-late_one (Shutdown id) = refl
-late_one Exit = refl
-late_one Ignored = refl
-late_one (Unknown id) = refl
-late_one (BadDocument name) = refl
-late_one (BadParams id) = refused _ id
-late_one NoMessage = refl
-late_one NoJson = refl
-late_one BadHeader = refl
-late_one TooLarge = refl
+  -- before `initialize`, while the server serves and after `shutdown`: each answer has its request's id, and publishes nothing
+  pub each_answer : (markup : Markup) (actions : List Action) (hints : List Hint) (hover : Option Hover) (message : Message) →
+      IsAnswer (waiting_answer message) (id_asked message) × IsSilent (waiting_answer message)
+      × IsAnswer (serving_answer markup actions hints hover message) (id_asked message) × IsSilent (serving_answer markup actions hints hover message)
+      × IsAnswer (late_answer message) (id_asked message) × IsSilent (late_answer message)
+  each_answer markup actions hints hover (Initialize id folders infer files exclude other encoding progress) = (refl, refl, refl, refl, refl, refl)
+  each_answer markup actions hints hover Initialized = (refl, refl, refl, refl, refl, refl)
+  each_answer markup actions hints hover (DidOpen named version text) = (refl, refl, refl, refl, refl, refl)
+  each_answer markup actions hints hover (DidChange named version changes) = (refl, refl, refl, refl, refl, refl)
+  each_answer markup actions hints hover (DidSave named) = (refl, refl, refl, refl, refl, refl)
+  each_answer markup actions hints hover (DidClose named) = (refl, refl, refl, refl, refl, refl)
+  each_answer markup actions hints hover WatchedFiles = (refl, refl, refl, refl, refl, refl)
+  each_answer markup actions hints hover (ChangedFolders added removed) = (refl, refl, refl, refl, refl, refl)
+  each_answer markup actions hints hover (CodeAction id named range) = (refl, refl, refl, refl, refl, refl)
+  each_answer markup actions hints hover (InlayHint id named range) = (refl, refl, refl, refl, refl, refl)
+  each_answer markup actions hints hover (HoverAsked id named position) = (refl, refl, refl, refl, refl, refl)
+  each_answer markup actions hints hover (Shutdown id) = (refl, refl, refl, refl, refl, refl)
+  each_answer markup actions hints hover Exit = (refl, refl, refl, refl, refl, refl)
+  each_answer markup actions hints hover Ignored = (refl, refl, refl, refl, refl, refl)
+  each_answer markup actions hints hover (Unknown id) = (refl, refl, refl, refl, refl, refl)
+  each_answer markup actions hints hover (BadDocument named) = (refl, refl, refl, refl, refl, refl)
+  each_answer markup actions hints hover (BadParams id) = (refused _ id, refusal_silent _ id, refused _ id, refusal_silent _ id, refused _ id, refusal_silent _ id)
+  each_answer markup actions hints hover NoMessage = (refl, refl, refl, refl, refl, refl)
+  each_answer markup actions hints hover NoJson = (refl, refl, refl, refl, refl, refl)
+  each_answer markup actions hints hover BadHeader = (refl, refl, refl, refl, refl, refl)
+  each_answer markup actions hints hover TooLarge = (refl, refl, refl, refl, refl, refl)
 
 -- ---- phases
 
@@ -133,9 +101,9 @@ IsGone ShutDown = ⊥
 IsGone (Exited in_order) = Unit {0}
 
 answer_one : (markup : Markup) (actions : List Action) (hints : List Hint) (hover : Option Hover) (phase : Phase) (message : Message) → IsLive phase → IsAnswer (answer_of markup actions hints hover phase message) (id_asked message)
-answer_one markup actions hints hover Waiting message live = waiting_one message
-answer_one markup actions hints hover Serving message live = serving_one markup actions hints hover message
-answer_one markup actions hints hover ShutDown message live = late_one message
+answer_one markup actions hints hover Waiting message live = (each_answer [] [] markup actions hints hover message).0
+answer_one markup actions hints hover Serving message live = (each_answer [] [] markup actions hints hover message).2
+answer_one markup actions hints hover ShutDown message live = (each_answer [] [] markup actions hints hover message).4
 answer_one markup actions hints hover (Exited in_order) _ live = absurd live
 
 -- warnings answer nothing
@@ -164,106 +132,52 @@ answers_none server (Folder files) direct e gone = ap ids_answered e
 clash : {X : Type 0} → true ≡ false → X
 clash e = absurd (cc)
 
-waiting_on : (message : Message) → is_exit (MessageEvent message) ≡ false → IsLive (phase_behind Waiting message)
-waiting_on (Initialize id folders infer files exclude markup encoding progress) e = tt
-waiting_on Initialized e = tt
-waiting_on (DidOpen name version text) e = tt
-waiting_on (DidChange name version changes) e = tt
-waiting_on (DidSave name) e = tt
-waiting_on (DidClose name) e = tt
-waiting_on WatchedFiles e = tt
-waiting_on (ChangedFolders added removed) e = tt
-waiting_on (CodeAction id name range) e = tt
-waiting_on (InlayHint id name range) e = tt
-waiting_on (HoverAsked id name position) e = tt
-waiting_on (Shutdown id) e = tt
-waiting_on Exit e = clash e
-waiting_on Ignored e = tt
-waiting_on (Unknown id) e = tt
-waiting_on (BadDocument name) e = tt
-waiting_on (BadParams id) e = tt
-waiting_on NoMessage e = tt
-waiting_on NoJson e = tt
-waiting_on BadHeader e = tt
-waiting_on TooLarge e = tt
+-- a message that isn't `exit` leaves a server live
+abbrev StaysLive : Message → Type 0
+StaysLive message = (is_exit (MessageEvent message) ≡ false) × IsLive (phase_behind Waiting message) × IsLive (phase_behind Serving message) × IsLive (phase_behind ShutDown message)
 
-serving_on : (message : Message) → is_exit (MessageEvent message) ≡ false → IsLive (phase_behind Serving message)
-serving_on (Initialize id folders infer files exclude markup encoding progress) e = tt
-serving_on Initialized e = tt
-serving_on (DidOpen name version text) e = tt
-serving_on (DidChange name version changes) e = tt
-serving_on (DidSave name) e = tt
-serving_on (DidClose name) e = tt
-serving_on WatchedFiles e = tt
-serving_on (ChangedFolders added removed) e = tt
-serving_on (CodeAction id name range) e = tt
-serving_on (InlayHint id name range) e = tt
-serving_on (HoverAsked id name position) e = tt
-serving_on (Shutdown id) e = tt
-serving_on Exit e = clash e
-serving_on Ignored e = tt
-serving_on (Unknown id) e = tt
-serving_on (BadDocument name) e = tt
-serving_on (BadParams id) e = tt
-serving_on NoMessage e = tt
-serving_on NoJson e = tt
-serving_on BadHeader e = tt
-serving_on TooLarge e = tt
+exit_or_live : (message : Message) → (message ≡ Exit) ⊎ StaysLive message
+exit_or_live (Initialize id folders infer files exclude markup encoding progress) = inr (refl, tt, tt, tt)
+exit_or_live Initialized = inr (refl, tt, tt, tt)
+exit_or_live (DidOpen name version text) = inr (refl, tt, tt, tt)
+exit_or_live (DidChange name version changes) = inr (refl, tt, tt, tt)
+exit_or_live (DidSave name) = inr (refl, tt, tt, tt)
+exit_or_live (DidClose name) = inr (refl, tt, tt, tt)
+exit_or_live WatchedFiles = inr (refl, tt, tt, tt)
+exit_or_live (ChangedFolders added removed) = inr (refl, tt, tt, tt)
+exit_or_live (CodeAction id name range) = inr (refl, tt, tt, tt)
+exit_or_live (InlayHint id name range) = inr (refl, tt, tt, tt)
+exit_or_live (HoverAsked id name position) = inr (refl, tt, tt, tt)
+exit_or_live (Shutdown id) = inr (refl, tt, tt, tt)
+exit_or_live Exit = inl refl
+exit_or_live Ignored = inr (refl, tt, tt, tt)
+exit_or_live (Unknown id) = inr (refl, tt, tt, tt)
+exit_or_live (BadDocument name) = inr (refl, tt, tt, tt)
+exit_or_live (BadParams id) = inr (refl, tt, tt, tt)
+exit_or_live NoMessage = inr (refl, tt, tt, tt)
+exit_or_live NoJson = inr (refl, tt, tt, tt)
+exit_or_live BadHeader = inr (refl, tt, tt, tt)
+exit_or_live TooLarge = inr (refl, tt, tt, tt)
 
-shut_down_on : (message : Message) → is_exit (MessageEvent message) ≡ false → IsLive (phase_behind ShutDown message)
-shut_down_on (Initialize id folders infer files exclude markup encoding progress) e = tt
-shut_down_on Initialized e = tt
-shut_down_on (DidOpen name version text) e = tt
-shut_down_on (DidChange name version changes) e = tt
-shut_down_on (DidSave name) e = tt
-shut_down_on (DidClose name) e = tt
-shut_down_on WatchedFiles e = tt
-shut_down_on (ChangedFolders added removed) e = tt
-shut_down_on (CodeAction id name range) e = tt
-shut_down_on (InlayHint id name range) e = tt
-shut_down_on (HoverAsked id name position) e = tt
-shut_down_on (Shutdown id) e = tt
-shut_down_on Exit e = clash e
-shut_down_on Ignored e = tt
-shut_down_on (Unknown id) e = tt
-shut_down_on (BadDocument name) e = tt
-shut_down_on (BadParams id) e = tt
-shut_down_on NoMessage e = tt
-shut_down_on NoJson e = tt
-shut_down_on BadHeader e = tt
-shut_down_on TooLarge e = tt
+stays_live : (message : Message) → (message ≡ Exit) ⊎ StaysLive message → is_exit (MessageEvent message) ≡ false → StaysLive message
+stays_live message (inl same) e = clash (sym (ap (λ m. is_exit (MessageEvent m)) same) ∙ e)
+stays_live message (inr live) e = live
 
 live_on : (phase : Phase) (event : Event) → IsLive phase → is_exit event ≡ false → IsLive (next_phase phase event)
-live_on Waiting (MessageEvent message) live e = waiting_on message e
-live_on Serving (MessageEvent message) live e = serving_on message e
-live_on ShutDown (MessageEvent message) live e = shut_down_on message e
+live_on Waiting (MessageEvent message) live e = (stays_live message (exit_or_live message) e).1
+live_on Serving (MessageEvent message) live e = (stays_live message (exit_or_live message) e).2
+live_on ShutDown (MessageEvent message) live e = (stays_live message (exit_or_live message) e).3
 live_on (Exited in_order) event live e = absurd live
 live_on Waiting (Folder files) live e = tt
 live_on Serving (Folder files) live e = tt
 live_on ShutDown (Folder files) live e = tt
 
+is_the_exit : (message : Message) → (message ≡ Exit) ⊎ StaysLive message → is_exit (MessageEvent message) ≡ true → message ≡ Exit
+is_the_exit message (inl same) e = same
+is_the_exit message (inr live) e = clash (sym e ∙ live.0)
+
 exit_is : (message : Message) → is_exit (MessageEvent message) ≡ true → message ≡ Exit
-exit_is (Initialize id folders infer files exclude markup encoding progress) e = clash (sym e)
-exit_is Initialized e = clash (sym e)
-exit_is (DidOpen name version text) e = clash (sym e)
-exit_is (DidChange name version changes) e = clash (sym e)
-exit_is (DidSave name) e = clash (sym e)
-exit_is (DidClose name) e = clash (sym e)
-exit_is WatchedFiles e = clash (sym e)
-exit_is (ChangedFolders added removed) e = clash (sym e)
-exit_is (CodeAction id name range) e = clash (sym e)
-exit_is (InlayHint id name range) e = clash (sym e)
-exit_is (HoverAsked id name position) e = clash (sym e)
-exit_is (Shutdown id) e = clash (sym e)
-exit_is Exit e = refl
-exit_is Ignored e = clash (sym e)
-exit_is (Unknown id) e = clash (sym e)
-exit_is (BadDocument name) e = clash (sym e)
-exit_is (BadParams id) e = clash (sym e)
-exit_is NoMessage e = clash (sym e)
-exit_is NoJson e = clash (sym e)
-exit_is BadHeader e = clash (sym e)
-exit_is TooLarge e = clash (sym e)
+exit_is message e = is_the_exit message (exit_or_live message) e
 
 exits : (phase : Phase) → IsGone (phase_behind phase Exit)
 exits Waiting = tt

@@ -6,13 +6,10 @@ use Rattle.jn_command.specs.declared.report.Report.{Report}
 use Rattle.jn_command.specs.declared.report.Report.TheVariants.{Refused, Checked}
 use Rattle.jn_front.specs.declared.source.SourceFile.{SourceFile}
 use Rattle.jn_lsp_text.specs.declared.encoding.Encoding.{Encoding}
-use Rattle.jn_lsp_text.specs.declared.id.Id.{Id}
 use Rattle.jn_lsp_text.specs.declared.markup.Markup.{Markup}
 use Rattle.jn_lsp_text.specs.declared.message.Message.{Message}
-use Rattle.jn_lsp_text.specs.declared.message.Message.TheVariants.{Initialize, Initialized, DidOpen, DidChange, DidSave, DidClose, WatchedFiles, ChangedFolders, CodeAction, InlayHint, Hover as HoverAsked, Shutdown, Exit, Ignored, Unknown, BadDocument, BadParams, NoMessage, NoJson, BadHeader, TooLarge}
 use Rattle.jn_lsp_text.specs.declared.reply.Action.{Action}
 use Rattle.jn_lsp_text.specs.declared.reply.Diagnostic.{Diagnostic}
-use Rattle.jn_lsp_text.specs.declared.reply.Failure.{Failure}
 use Rattle.jn_lsp_text.specs.declared.reply.Hint.{Hint}
 use Rattle.jn_lsp_text.specs.declared.reply.Hover.{Hover}
 use Rattle.jn_lsp_text.specs.declared.reply.Reply.{Reply}
@@ -24,11 +21,12 @@ use Rattle.jn_lsp.specs.declared.event.Event.TheVariants.{Folder, Message as Mes
 use Rattle.jn_lsp.specs.declared.phase.Phase.{Phase}
 use Rattle.jn_lsp.specs.declared.phase.Phase.TheVariants.{Waiting, Serving, ShutDown, Exited}
 use Rattle.jn_lsp.specs.Publications.{Announces, last_published}
-use Rattle.jn_lsp.specs.Serving.{AreAnswers, ArePublishedLast, AreToldOf, IsInformed, IsMovedIn, IsRetold, IsToldAnew, IsUpToDate, Serves, ServerOf, Takes, answer_of, files_of, late_answer, opened_by, new_server, next_phase, refusal, serving_answer, waiting_answer}
+use Rattle.jn_lsp.specs.Serving.{AreAnswers, ArePublishedLast, AreToldOf, IsInformed, IsMovedIn, IsRetold, IsToldAnew, IsUpToDate, Serves, ServerOf, Takes, answer_of, files_of, opened_by, new_server, next_phase}
 use Rattle.jn_lsp.specs.declared.unchecked.LastReport.{LastReport}
 use Rattle.jn_lsp.specs.Reported.{AreFindings, AreTold, IsTold, comes_to_rules, next_last, reported_at}
 use Rattle.jn_lsp.specs.Telling.{told_from, told_of}
 use Rattle.jn_lsp.specs.Unknown.{doubts_in, hushed, unless_unknown}
+use Rattle.jn_lsp.proofs.Answering.{IsSilent, each_answer}
 use Rattle.jn_lsp.proofs.Hushing.{doubts_silent, hushed_told, own_hushed}
 use Rattle.jn_lsp.proofs.LastPublished.{AreOwnTold, announced, last_both, told_own}
 use Rattle.jn_lsp.proofs.Names.{stand_own, true_false}
@@ -37,86 +35,10 @@ use Rattle.jn_lsp.proofs.Rows.{told_named}
 -- ---- answers publish nothing
 
 module _ (name : List ℕ) (last : List Diagnostic) where
-  abbrev IsSilent : Option Reply → Type 0
-  IsSilent reply = last_published name last (option_to_list reply) ≡ last
-
-  refusal_silent : (failure : Failure) (id : Option Id) → IsSilent (refusal failure id)
-  refusal_silent failure None = refl
-  refusal_silent failure (Some id) = refl
-
-  waiting_silent : (message : Message) → IsSilent (waiting_answer message)
-  waiting_silent (Initialize id folders infer files exclude markup encoding progress) = refl
-  waiting_silent Initialized = refl
-  waiting_silent (DidOpen named version text) = refl
-  waiting_silent (DidChange named version changes) = refl
-  waiting_silent (DidSave named) = refl
-  waiting_silent (DidClose named) = refl
-  waiting_silent WatchedFiles = refl
-  waiting_silent (ChangedFolders added removed) = refl
-  waiting_silent (CodeAction id named range) = refl
-  waiting_silent (InlayHint id named range) = refl
-  waiting_silent (HoverAsked id named position) = refl
-  waiting_silent (Shutdown id) = refl
-  waiting_silent Exit = refl
-  waiting_silent Ignored = refl
-  waiting_silent (Unknown id) = refl
-  waiting_silent (BadDocument named) = refl
-  waiting_silent (BadParams id) = refusal_silent _ id
-  waiting_silent NoMessage = refl
-  waiting_silent NoJson = refl
-  waiting_silent BadHeader = refl
-  waiting_silent TooLarge = refl
-
-  serving_silent : (markup : Markup) (actions : List Action) (hints : List Hint) (hover : Option Hover) (message : Message) → IsSilent (serving_answer markup actions hints hover message)
-  serving_silent markup actions hints hover (Initialize id folders infer files exclude other encoding progress) = refl
-  serving_silent markup actions hints hover Initialized = refl
-  serving_silent markup actions hints hover (DidOpen named version text) = refl
-  serving_silent markup actions hints hover (DidChange named version changes) = refl
-  serving_silent markup actions hints hover (DidSave named) = refl
-  serving_silent markup actions hints hover (DidClose named) = refl
-  serving_silent markup actions hints hover WatchedFiles = refl
-  serving_silent markup actions hints hover (ChangedFolders added removed) = refl
-  serving_silent markup actions hints hover (CodeAction id named range) = refl
-  serving_silent markup actions hints hover (InlayHint id named range) = refl
-  serving_silent markup actions hints hover (HoverAsked id named position) = refl
-  serving_silent markup actions hints hover (Shutdown id) = refl
-  serving_silent markup actions hints hover Exit = refl
-  serving_silent markup actions hints hover Ignored = refl
-  serving_silent markup actions hints hover (Unknown id) = refl
-  serving_silent markup actions hints hover (BadDocument named) = refl
-  serving_silent markup actions hints hover (BadParams id) = refusal_silent _ id
-  serving_silent markup actions hints hover NoMessage = refl
-  serving_silent markup actions hints hover NoJson = refl
-  serving_silent markup actions hints hover BadHeader = refl
-  serving_silent markup actions hints hover TooLarge = refl
-
-  late_silent : (message : Message) → IsSilent (late_answer message)
-  late_silent (Initialize id folders infer files exclude markup encoding progress) = refl
-  late_silent Initialized = refl
-  late_silent (DidOpen named version text) = refl
-  late_silent (DidChange named version changes) = refl
-  late_silent (DidSave named) = refl
-  late_silent (DidClose named) = refl
-  late_silent WatchedFiles = refl
-  late_silent (ChangedFolders added removed) = refl
-  late_silent (CodeAction id named range) = refl
-  late_silent (InlayHint id named range) = refl
-  late_silent (HoverAsked id named position) = refl
-  late_silent (Shutdown id) = refl
-  late_silent Exit = refl
-  late_silent Ignored = refl
-  late_silent (Unknown id) = refl
-  late_silent (BadDocument named) = refl
-  late_silent (BadParams id) = refusal_silent _ id
-  late_silent NoMessage = refl
-  late_silent NoJson = refl
-  late_silent BadHeader = refl
-  late_silent TooLarge = refl
-
-  answer_silent : (markup : Markup) (actions : List Action) (hints : List Hint) (hover : Option Hover) (phase : Phase) (message : Message) → IsSilent (answer_of markup actions hints hover phase message)
-  answer_silent markup actions hints hover Waiting message = waiting_silent message
-  answer_silent markup actions hints hover Serving message = serving_silent markup actions hints hover message
-  answer_silent markup actions hints hover ShutDown message = late_silent message
+  answer_silent : (markup : Markup) (actions : List Action) (hints : List Hint) (hover : Option Hover) (phase : Phase) (message : Message) → IsSilent name last (answer_of markup actions hints hover phase message)
+  answer_silent markup actions hints hover Waiting message = (each_answer name last markup actions hints hover message).1
+  answer_silent markup actions hints hover Serving message = (each_answer name last markup actions hints hover message).3
+  answer_silent markup actions hints hover ShutDown message = (each_answer name last markup actions hints hover message).5
   answer_silent markup actions hints hover (Exited in_order) _ = refl
 
   answers_silent : (server : ServerOf) (event : Event) (direct : List Reply) → AreAnswers server.phase server.told server.workspace event direct → last_published name last direct ≡ last

@@ -77,16 +77,22 @@ abbrev pub nameless : Option Failure → Option Reply
 nameless None = None
 nameless (Some failure) = Some (Refusal None failure)
 
+-- where no request is taken, each is refused so
+abbrev pub untaken : Failure → Message → Option Reply
+untaken failure (Initialize id folders infer files exclude markup encoding progress) = refusal failure (Some id)
+untaken failure (CodeAction id name range) = refusal failure (Some id)
+untaken failure (InlayHint id name range) = refusal failure (Some id)
+untaken failure (HoverAsked id name position) = refusal failure (Some id)
+untaken failure (Shutdown id) = refusal failure (Some id)
+untaken failure (Unknown id) = refusal failure (Some id)
+untaken failure (BadParams id) = refusal failure id
+untaken failure other = nameless (unread other)
+
 -- before `initialize` no other request is served
 abbrev pub waiting_answer : Message → Option Reply
 waiting_answer (Initialize id folders infer files exclude markup encoding progress) = Some (Capabilities id encoding)
-waiting_answer (CodeAction id name range) = refusal NotInitialized (Some id)
-waiting_answer (InlayHint id name range) = refusal NotInitialized (Some id)
-waiting_answer (HoverAsked id name position) = refusal NotInitialized (Some id)
-waiting_answer (Shutdown id) = refusal NotInitialized (Some id)
-waiting_answer (Unknown id) = refusal NotInitialized (Some id)
 waiting_answer (BadParams id) = refusal Params id
-waiting_answer other = nameless (unread other)
+waiting_answer other = untaken NotInitialized other
 
 -- a second `initialize` is refused, and these are the actions, the hints and what is shown at a position, for requests of them
 abbrev pub serving_answer : Markup → List Action → List Hint → Option Hover → Message → Option Reply
@@ -101,14 +107,7 @@ serving_answer markup actions hints hover other = nameless (unread other)
 
 -- after `shutdown` every request is refused
 abbrev pub late_answer : Message → Option Reply
-late_answer (Initialize id folders infer files exclude markup encoding progress) = refusal Request (Some id)
-late_answer (CodeAction id name range) = refusal Request (Some id)
-late_answer (InlayHint id name range) = refusal Request (Some id)
-late_answer (HoverAsked id name position) = refusal Request (Some id)
-late_answer (Shutdown id) = refusal Request (Some id)
-late_answer (Unknown id) = refusal Request (Some id)
-late_answer (BadParams id) = refusal Request id
-late_answer other = nameless (unread other)
+late_answer message = untaken Request message
 
 -- the answer to a request, where these actions are offered, and these hints and this is shown; notifications have none, but for those that can't be read
 abbrev pub answer_of : Markup → List Action → List Hint → Option Hover → Phase → Message → Option Reply

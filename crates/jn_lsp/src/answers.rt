@@ -49,6 +49,22 @@ fn unread(message: &Message) -> Option<Reply>
     Some(Reply::Refusal { id: None, failure })
 }
 
+/// The refusal of a request that comes where none is taken.
+fn untaken(alloc: Global, failure: Failure, message: &Message) -> Result<Option<Reply>, OutOfMemory>
+    ensures { IfOk result (λ answer. answer ≡ spec.untaken failure message.now) }
+{
+    match message {
+        Message::Initialize { id, .. } => refused(alloc, failure, id),
+        Message::CodeAction { id, .. } => refused(alloc, failure, id),
+        Message::InlayHint { id, .. } => refused(alloc, failure, id),
+        Message::Hover { id, .. } => refused(alloc, failure, id),
+        Message::Shutdown { id } => refused(alloc, failure, id),
+        Message::Unknown { id } => refused(alloc, failure, id),
+        Message::BadParams { id } => refusal(alloc, failure, id),
+        _ => Ok(unread(message)),
+    }
+}
+
 fn waiting_answer(alloc: Global, message: &Message) -> Result<Option<Reply>, OutOfMemory>
     ensures { IfOk result (λ answer. answer ≡ spec.waiting_answer message.now) }
 {
@@ -57,13 +73,8 @@ fn waiting_answer(alloc: Global, message: &Message) -> Result<Option<Reply>, Out
             id: id.copy(alloc)?,
             encoding: *encoding,
         })),
-        Message::CodeAction { id, .. } => refused(alloc, Failure::NotInitialized, id),
-        Message::InlayHint { id, .. } => refused(alloc, Failure::NotInitialized, id),
-        Message::Hover { id, .. } => refused(alloc, Failure::NotInitialized, id),
-        Message::Shutdown { id } => refused(alloc, Failure::NotInitialized, id),
-        Message::Unknown { id } => refused(alloc, Failure::NotInitialized, id),
         Message::BadParams { id } => refusal(alloc, Failure::Params, id),
-        _ => Ok(unread(message)),
+        _ => untaken(alloc, Failure::NotInitialized, message),
     }
 }
 
@@ -102,21 +113,6 @@ fn serving_answer(
     }
 }
 
-fn late_answer(alloc: Global, message: &Message) -> Result<Option<Reply>, OutOfMemory>
-    ensures { IfOk result (λ answer. answer ≡ spec.late_answer message.now) }
-{
-    match message {
-        Message::Initialize { id, .. } => refused(alloc, Failure::Request, id),
-        Message::CodeAction { id, .. } => refused(alloc, Failure::Request, id),
-        Message::InlayHint { id, .. } => refused(alloc, Failure::Request, id),
-        Message::Hover { id, .. } => refused(alloc, Failure::Request, id),
-        Message::Shutdown { id } => refused(alloc, Failure::Request, id),
-        Message::Unknown { id } => refused(alloc, Failure::Request, id),
-        Message::BadParams { id } => refusal(alloc, Failure::Request, id),
-        _ => Ok(unread(message)),
-    }
-}
-
 /// The answer to a message, where it has one, these actions are offered, and these hints and this is shown.
 fn answer_of(
     alloc: Global,
@@ -133,7 +129,7 @@ fn answer_of(
     match phase {
         Phase::Waiting => waiting_answer(alloc, message),
         Phase::Serving => serving_answer(alloc, message, markup, actions, hints, hover),
-        Phase::ShutDown => late_answer(alloc, message),
+        Phase::ShutDown => untaken(alloc, Failure::Request, message),
         Phase::Exited { .. } => Ok(None),
     }
 }

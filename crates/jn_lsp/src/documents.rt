@@ -1,5 +1,5 @@
 //! The documents that a client has open.
-ghost use Rattle.std.specs.Prelude.{◌≡◌, IfOk, MatchOption, None, Some, length, ◌<◌, true};
+ghost use Rattle.std.specs.Prelude.{◌≡◌, IfOk, MatchOption, None, Some, length, ◌<◌};
 ghost use Rattle.jn_lsp.specs.Edits as spec;
 ghost use Rattle.jn_lsp.specs.Serving as serving;
 ghost use Rattle.jn_lsp.specs.Tracking.{versions_behind};

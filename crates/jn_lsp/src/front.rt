@@ -1,5 +1,5 @@
 //! Where the first token of a text begins.
-ghost use Rattle.std.specs.Prelude.{◌≡◌, ◌≤◌, ◌<◌, ◌^◌, length};
+ghost use Rattle.std.specs.Prelude.{◌≡◌, ◌≤◌, length};
 ghost use Rattle.jn_lsp.specs.Front as spec;
 ghost use Rattle.jn_lsp.specs.declared.front.Gap.TheVariants.{Blank};
 

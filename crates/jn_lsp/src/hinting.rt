@@ -1,9 +1,8 @@
 //! The hints that are shown in a range of a file.
-ghost use Rattle.std.specs.Prelude.{◌≡◌, IfOk};
+ghost use Rattle.std.specs.Prelude.{IfOk};
 ghost use Rattle.jn_lsp.specs.Hinting as spec;
 ghost use Rattle.jn_lsp.specs.Names.{is_empty as no_names};
 ghost use Rattle.jn_lsp.specs.Serving.{files_of};
-ghost use Rattle.jn_lsp_actions.specs.Hinted.{AreHints};
 
 use crate::documents::Workspace;
 use crate::phase::Phase;
@@ -17,34 +16,7 @@ use jn_sharing::{Gate, Workers};
 use std::alloc::Global;
 use std::thread::Threads;
 
-/// The hints of the files as they stand in a range of the file of a name.
-fn hints_of<R: Threads + Sync, G: Gate + Sync>(
-    rt: &R,
-    gate: &G,
-    alloc: Global,
-    workspace: &Workspace,
-    name: &str,
-    range: Range,
-) -> Result<Seq<Hint>, OutOfMemory>
-    ensures { IfOk result (λ hints. AreHints workspace.now.infer workspace.now.encoding (files_of workspace.now) name.now range
-        hints) }
-{
-    let files = stand(alloc, workspace)?;
-    let hints = hints_for(
-        rt,
-        gate,
-        alloc,
-        Workers::of(WORKERS),
-        workspace.infer,
-        workspace.encoding,
-        &files,
-        name,
-        range,
-    )?;
-    Ok(hints)
-}
-
-/// The hints in a range of the file of a name: none while a document's text isn't known.
+/// The hints of the files as they stand in a range of the file of a name: none while a document's text isn't known.
 fn hints_at<R: Threads + Sync, G: Gate + Sync>(
     rt: &R,
     gate: &G,
@@ -57,7 +29,19 @@ fn hints_at<R: Threads + Sync, G: Gate + Sync>(
         (no_names workspace.now.unknown) (files_of workspace.now) name.now range hints) }
 {
     if is_empty(workspace.unknown.as_slice()) {
-        hints_of(rt, gate, alloc, workspace, name, range)
+        let files = stand(alloc, workspace)?;
+        let hints = hints_for(
+            rt,
+            gate,
+            alloc,
+            Workers::of(WORKERS),
+            workspace.infer,
+            workspace.encoding,
+            &files,
+            name,
+            range,
+        )?;
+        Ok(hints)
     } else {
         Ok(Seq::new(alloc))
     }

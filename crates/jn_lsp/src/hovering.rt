@@ -3,7 +3,6 @@ ghost use Rattle.std.specs.Prelude.{IfOk};
 ghost use Rattle.jn_lsp.specs.Hovering as spec;
 ghost use Rattle.jn_lsp.specs.Names.{is_empty as no_names};
 ghost use Rattle.jn_lsp.specs.Serving.{files_of};
-ghost use Rattle.jn_lsp_hover.specs.Hovered.{IsHover};
 
 use crate::documents::Workspace;
 use crate::phase::Phase;
@@ -17,34 +16,7 @@ use jn_sharing::{Gate, Workers};
 use std::alloc::Global;
 use std::thread::Threads;
 
-/// What is shown of the files as they stand at a position of the file of a name.
-fn hover_of<R: Threads + Sync, G: Gate + Sync>(
-    rt: &R,
-    gate: &G,
-    alloc: Global,
-    workspace: &Workspace,
-    name: &str,
-    position: Position,
-) -> Result<Option<Hover>, OutOfMemory>
-    ensures { IfOk result (λ hover. IsHover workspace.now.infer workspace.now.encoding (files_of workspace.now) name.now
-        position hover) }
-{
-    let files = stand(alloc, workspace)?;
-    let hover = hover_for(
-        rt,
-        gate,
-        alloc,
-        Workers::of(WORKERS),
-        workspace.infer,
-        workspace.encoding,
-        &files,
-        name,
-        position,
-    )?;
-    Ok(hover)
-}
-
-/// What is shown at a position of the file of a name: nothing while a document's text isn't known.
+/// What is shown of the files as they stand at a position of the file of a name: nothing while a document's text isn't known.
 fn hover_at<R: Threads + Sync, G: Gate + Sync>(
     rt: &R,
     gate: &G,
@@ -57,7 +29,19 @@ fn hover_at<R: Threads + Sync, G: Gate + Sync>(
         (no_names workspace.now.unknown) (files_of workspace.now) name.now position hover) }
 {
     if is_empty(workspace.unknown.as_slice()) {
-        hover_of(rt, gate, alloc, workspace, name, position)
+        let files = stand(alloc, workspace)?;
+        let hover = hover_for(
+            rt,
+            gate,
+            alloc,
+            Workers::of(WORKERS),
+            workspace.infer,
+            workspace.encoding,
+            &files,
+            name,
+            position,
+        )?;
+        Ok(hover)
     } else {
         Ok(None)
     }

@@ -1,7 +1,6 @@
 //! The actions that are offered at a range of a file.
 ghost use Rattle.std.specs.Prelude.{◌≡◌, IfOk};
 ghost use Rattle.jn_lsp.specs.Serving as spec;
-ghost use Rattle.jn_lsp_actions.specs.Offered.{AreActions};
 
 use crate::diagnostics::Told;
 use crate::documents::Workspace;
@@ -33,35 +32,8 @@ fn is_told_at(told: &[Told], name: &str, range: Range) -> bool
         .any(|diagnostic| is_at(diagnostic, range))
 }
 
-/// The actions of the files as they stand at a range of the file of a name.
-fn actions_of<R: Threads + Sync, G: Gate + Sync>(
-    rt: &R,
-    gate: &G,
-    alloc: Global,
-    workspace: &Workspace,
-    name: &str,
-    range: Range,
-) -> Result<Seq<Action>, OutOfMemory>
-    ensures { IfOk result (λ actions. AreActions workspace.now.infer workspace.now.encoding (spec.files_of workspace.now) name.now range
-        actions) }
-{
-    let files = stand(alloc, workspace)?;
-    let actions = actions_for(
-        rt,
-        gate,
-        alloc,
-        Workers::of(WORKERS),
-        workspace.infer,
-        workspace.encoding,
-        &files,
-        name,
-        range,
-    )?;
-    Ok(actions)
-}
-
-/// The actions at a range of the file of a name: none while a document's text isn't known. Files are checked for them only where something is told there, since editors ask at each
-/// move of the cursor.
+/// The actions of the files as they stand at a range of the file of a name: none while a document's text isn't known. Files are checked for them only
+/// where something is told there, since editors ask at each move of the cursor.
 fn actions_at<R: Threads + Sync, G: Gate + Sync>(
     rt: &R,
     gate: &G,
@@ -76,7 +48,19 @@ fn actions_at<R: Threads + Sync, G: Gate + Sync>(
         (spec.files_of workspace.now) name.now range actions) }
 {
     if is_empty(workspace.unknown.as_slice()) && is_told_at(told, name, range) {
-        actions_of(rt, gate, alloc, workspace, name, range)
+        let files = stand(alloc, workspace)?;
+        let actions = actions_for(
+            rt,
+            gate,
+            alloc,
+            Workers::of(WORKERS),
+            workspace.infer,
+            workspace.encoding,
+            &files,
+            name,
+            range,
+        )?;
+        Ok(actions)
     } else {
         Ok(Seq::new(alloc))
     }

@@ -1,5 +1,5 @@
 //! What is published where something else is told than before.
-ghost use Rattle.std.specs.Prelude.{◌≡◌, ◌++◌, IfOk, OnOk, IsTrue, ◌↔◌};
+ghost use Rattle.std.specs.Prelude.{◌≡◌, IfOk, OnOk};
 ghost use Rattle.jn_lsp.specs.Publications as spec;
 ghost use Rattle.jn_lsp.specs.Telling.{told_of};
 

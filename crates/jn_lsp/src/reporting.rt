@@ -1,5 +1,5 @@
 //! The report of the files as they stand.
-ghost use Rattle.std.specs.Prelude.{◌≡◌, IfOk, ◌≤◌};
+ghost use Rattle.std.specs.Prelude.{◌≡◌, IfOk};
 ghost use Rattle.jn_lsp.specs.Reported.{AreNoted, AreTold, IsReported, IsTold};
 
 use crate::diagnostics::{Told, told_of_all};

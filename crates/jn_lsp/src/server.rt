@@ -1,5 +1,5 @@
 //! The server.
-ghost use Rattle.std.specs.Prelude.{◌≡◌, ◌++◌, IfOk, OnErr, OnOk, [], None, Some};
+ghost use Rattle.std.specs.Prelude.{◌≡◌, ◌++◌, IfOk, OnErr, [], None, Some};
 ghost use Rattle.jn_lsp.specs.Publications.{Announces};
 ghost use Rattle.jn_lsp.specs.Serving.{AreToldOf, IsInformed, Takes, files_of, new_server};
 

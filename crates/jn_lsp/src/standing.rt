@@ -1,5 +1,5 @@
 //! Files as they stand.
-ghost use Rattle.std.specs.Prelude.{◌≡◌, ◌≤◌, ◌<◌, ◌++◌, IfOk, OnOk, map, length, true};
+ghost use Rattle.std.specs.Prelude.{◌≡◌, ◌<◌, IfOk, OnOk};
 ghost use Rattle.jn_lsp.specs.Serving.{files_of};
 ghost use Rattle.jn_lsp.specs.Stand as spec;
 

@@ -1,6 +1,6 @@
 //! A program's slots with one alone that is inferred.
-ghost use Rattle.std.specs.Prelude.{◌≡◌, ◌++◌, ◌+◌, IfOk};
-ghost use Rattle.jn_lsp_actions.specs.Alone.{alone, alone_from};
+ghost use Rattle.std.specs.Prelude.{◌≡◌, IfOk};
+ghost use Rattle.jn_lsp_actions.specs.Alone.{alone};
 
 use jn_base::{OutOfMemory, Seq};
 use jn_points::{Program, SlotInfo};

@@ -1,7 +1,6 @@
 //! Where `@Nullable` is written for a slot.
 ghost use Rattle.std.specs.Prelude.{◌≡◌, ◌++◌, drop, map, IfOk, OnOk};
 ghost use Rattle.jn_points.specs.Members.{some_of};
-ghost use Rattle.jn_sigs.specs.Signature as sigs;
 ghost use Rattle.jn_trees.specs.Spelling.{spell_marks, spell_result};
 ghost use Rattle.jn_trees.specs.View.{annotation_names, brackets_view, declarator_views, file_view, local_mark, local_marks, mark, marks, member_view, member_views, parameter_views, receiver_view, result_view, type_use_view, type_view};
 ghost use Rattle.jn_places.specs.Places.{behind, spell_receiver};
@@ -17,6 +16,7 @@ use jn_annotate::steps::{
     behind_package, behind_parameter, behind_parent, behind_parents, behind_receiver,
     behind_result, behind_type, step,
 };
+use jn_annotate::taken::is_slot;
 use jn_base::{NameNo, OutOfMemory, SlotNo};
 use jn_known::{MONOTONIC_NON_NULL, NON_NULL, NULLABLE};
 use jn_points::{Field, Method};
@@ -92,15 +92,6 @@ fn is_said(before: bool, array: &Option<Vec<Annotation>>) -> bool
     match array {
         None => before,
         Some(annotations) => names_say(annotations),
-    }
-}
-
-fn is_slot(slot: u32, has: Option<SlotNo>) -> bool
-    ensures { result ≡ sigs.is_slot slot has }
-{
-    match has {
-        None => false,
-        Some(has) => has.0 == slot,
     }
 }
 

@@ -1,5 +1,5 @@
 //! A reader of frames.
-ghost use Rattle.std.specs.Prelude.{◌≡◌, ◌<◌, ◌≤◌, ◌+◌, ◌++◌, [], List, ℕ, length, take, drop, true, false, IfOk, IfSome, OnOk, option_map};
+ghost use Rattle.std.specs.Prelude.{◌≡◌, ◌<◌, ◌≤◌, ◌+◌, ◌++◌, [], List, ℕ, length, take, drop, true, false, IfOk, OnOk, option_map};
 ghost use Rattle.jn_lsp_frames.specs.Asking.{Asks, with_asking};
 ghost use Rattle.jn_lsp_frames.specs.Frames.{IsPartial};
 ghost use Rattle.jn_lsp_frames.specs.Header.{IsBlock};

@@ -1,9 +1,10 @@
 //! Names that are declared.
-ghost use Rattle.std.specs.Prelude.{◌≡◌, drop, map};
+ghost use Rattle.std.specs.Prelude.{◌≡◌, map};
 ghost use Rattle.jn_lsp_hover.specs.Declarations as spec;
 
 use crate::sought::has_byte;
 use jn_annotate::members::next_methods;
+use jn_annotate::parts::items_behind;
 use jn_base::{SlotNo, Span, least};
 use jn_heads::{ClassHead, MethodHead, ParamHead};
 use jn_points::{Field, Method, Program};
@@ -108,18 +109,6 @@ fn in_methods(
     None
 }
 
-/// The methods after so many.
-#[tactic(auto, using(jn_annotate::proofs::Cursors::drop_all))]
-fn methods_behind(methods: &[Method], count: usize) -> &[Method]
-    ensures { result.now ≡ drop count methods.now }
-{
-    if count < methods.len() {
-        &methods[count..]
-    } else {
-        &[]
-    }
-}
-
 /// The same of the methods of all classes.
 fn in_classes(
     file: usize,
@@ -137,7 +126,7 @@ fn in_classes(
         if found.is_some() {
             return found;
         }
-        rest = methods_behind(rest, head.methods.len());
+        rest = items_behind(rest, head.methods.len());
     }
     None
 }

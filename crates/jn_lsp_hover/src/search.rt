@@ -1,5 +1,5 @@
 //! The narrowest text at a byte that a point reads or makes.
-ghost use Rattle.std.specs.Prelude.{◌≡◌, ◌<◌, ◌^◌, ◌∷◌, ◌++◌, [], filter, length, map, MatchOption, None, Some};
+ghost use Rattle.std.specs.Prelude.{◌≡◌, ◌<◌, ◌^◌, ◌∷◌, ◌++◌, [], filter, length, map, None, Some};
 ghost use Rattle.jn_points.specs.Lookup.{body_at, points_of};
 ghost use Rattle.jn_points.specs.Operands.{operand_if, operands};
 ghost use Rattle.jn_points.specs.Shaped.{writes};
@@ -7,8 +7,9 @@ ghost use Rattle.jn_tables_law.specs.Inferable.{IsInferable};
 ghost use Rattle.jn_lsp_hover.specs.Searched as found;
 ghost use Rattle.jn_lsp_hover.specs.Spots as spec;
 
-use crate::sought::{Sought, less, passes};
+use crate::sought::{Sought, passes};
 use crate::spot::Spot;
+use jn_annotate::parts::less;
 use jn_base::{RegNo, Span};
 use jn_points::{Operand, Point, PointKind, writes};
 

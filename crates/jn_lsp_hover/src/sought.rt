@@ -1,12 +1,11 @@
 //! The byte at which something is sought.
-ghost use Rattle.std.specs.Prelude.{◌≡◌, ◌-◌};
+ghost use Rattle.std.specs.Prelude.{◌≡◌};
 ghost use Rattle.jn_points.specs.Lookup.{method_in, static_of};
-ghost use Rattle.jn_splice_law.specs.Woven.{piece};
 ghost use Rattle.jn_lsp_hover.specs.Searched.{passes};
 ghost use Rattle.jn_lsp_hover.specs.Spots as spec;
 
 use crate::spot::Spot;
-use jn_annotate::parts::{bytes_behind, first_bytes};
+use jn_annotate::parts::bytes_at;
 use jn_base::Span;
 use jn_points::Program;
 use jn_points::lookup::method_in;
@@ -25,23 +24,6 @@ pub(crate) fn has_byte(file: usize, offset: usize, span: Span) -> bool
     ensures { result ≡ spec.has_byte file offset span }
 {
     span.file.0 as usize == file && (span.from as usize) <= offset && offset < span.to as usize
-}
-
-/// A number less another one, or nothing.
-pub(crate) fn less(from: u32, by: u32) -> u32
-    ensures { result ≡ from - by }
-{
-    if by < from { from - by } else { 0 }
-}
-
-/// The bytes of a text at a place.
-fn bytes_at(text: &[u8], span: Span) -> &[u8]
-    ensures { result.now ≡ piece text.now span }
-{
-    first_bytes(
-        bytes_behind(text, span.from as usize),
-        less(span.to, span.from) as usize,
-    )
 }
 
 /// Whether the body is that of a static method, or is none.

@@ -177,21 +177,21 @@ abbrev pub has_word : List ℕ → Items → Bool
 has_word word no_items = false
 has_word word (item d ds) = is_word word (as_str d) || has_word word ds
 
--- how the client shows what stands at a position: in Markdown, where that is among the forms that it names
-abbrev pub markup_by : Option Items → Markup
-markup_by None = Plain
-markup_by (Some forms) = if has_word (codes "markdown") forms then Markdown else Plain
+abbrev pub offers : List ℕ → Option Items → Bool
+offers word None = false
+offers word (Some items) = has_word word items
 
+-- the same of the array at a path
+abbrev pub offers_at : List ℕ → List ℕ → Data → Bool
+offers_at path word d = offers word (option_and_then as_array (pointer path d))
+
+-- how the client shows what stands at a position: in Markdown, where that is among the forms that it names
 unfoldable pub markup_in : Data → Markup
-markup_in d = markup_by (option_and_then as_array (pointer (codes "/params/capabilities/textDocument/hover/contentFormat") d))
+markup_in d = if offers_at (codes "/params/capabilities/textDocument/hover/contentFormat") (codes "markdown") d then Markdown else Plain
 
 -- the unit of positions: UTF-8, where that is among those which the client offers; else UTF-16, which every client takes
-abbrev pub encoding_by : Option Items → Encoding
-encoding_by None = Utf16
-encoding_by (Some offered) = if has_word (codes "utf-8") offered then Utf8 else Utf16
-
 unfoldable pub encoding_in : Data → Encoding
-encoding_in d = encoding_by (option_and_then as_array (pointer (codes "/params/capabilities/general/positionEncodings") d))
+encoding_in d = if offers_at (codes "/params/capabilities/general/positionEncodings") (codes "utf-8") d then Utf8 else Utf16
 
 -- the client shows that work goes on, where the server announces it
 unfoldable pub progress_in : Data → Bool

@@ -253,18 +253,22 @@ fn has_word(word: &str, items: &[Value]) -> bool
     false
 }
 
-fn markup_of(value: &Value) -> Markup
-    ensures { result ≡ spec.markup_by (as_array (view value.now)) }
+fn offers(value: &Value, word: &str) -> bool
+    ensures { result ≡ spec.offers word.now (as_array (view value.now)) }
 {
     match value.as_array() {
-        None => Markup::Plain,
-        Some(forms) => {
-            if has_word("markdown", forms) {
-                Markup::Markdown
-            } else {
-                Markup::Plain
-            }
-        }
+        None => false,
+        Some(items) => has_word(word, items),
+    }
+}
+
+/// Whether the word is among the texts of the array at a path.
+fn offers_at(body: &Value, path: &str, word: &str) -> bool
+    ensures { result ≡ spec.offers_at path.now word.now (view body.now) }
+{
+    match body.pointer(path) {
+        None => false,
+        Some(value) => offers(value, word),
     }
 }
 
@@ -273,24 +277,11 @@ fn markup_of(value: &Value) -> Markup
 pub(crate) fn markup_in(body: &Value) -> Markup
     ensures { result ≡ spec.markup_in (view body.now) }
 {
-    match body.pointer("/params/capabilities/textDocument/hover/contentFormat") {
-        None => Markup::Plain,
-        Some(forms) => markup_of(forms),
-    }
-}
-
-fn encoding_of(value: &Value) -> Encoding
-    ensures { result ≡ spec.encoding_by (as_array (view value.now)) }
-{
-    match value.as_array() {
-        None => Encoding::Utf16,
-        Some(offered) => {
-            if has_word("utf-8", offered) {
-                Encoding::Utf8
-            } else {
-                Encoding::Utf16
-            }
-        }
+    let path = "/params/capabilities/textDocument/hover/contentFormat";
+    if offers_at(body, path, "markdown") {
+        Markup::Markdown
+    } else {
+        Markup::Plain
     }
 }
 
@@ -299,9 +290,11 @@ fn encoding_of(value: &Value) -> Encoding
 pub(crate) fn encoding_in(body: &Value) -> Encoding
     ensures { result ≡ spec.encoding_in (view body.now) }
 {
-    match body.pointer("/params/capabilities/general/positionEncodings") {
-        None => Encoding::Utf16,
-        Some(offered) => encoding_of(offered),
+    let path = "/params/capabilities/general/positionEncodings";
+    if offers_at(body, path, "utf-8") {
+        Encoding::Utf8
+    } else {
+        Encoding::Utf16
     }
 }
 

@@ -4,9 +4,9 @@ use Rattle.std.specs.Prelude.{cond, bytes_eq}
 use Rattle.std.specs.List.{remove}
 use Rattle.std.proofs.lemmas.List.{drop_more, take_more}
 use Rattle.jn_script.specs.declared.step.Step.{Step}
-use Rattle.jn_script.specs.declared.step.Step.TheVariants.{Empty, Set, Remove, Check}
-use Rattle.jn_script.specs.Script.{AreSteps, CanTake, IsFirstBad, IsScript, IsStep, behind_all, has, lines, names_behind, without, words_of}
-use Rattle.jn_script.specs.Telling.{IsBad, Takes}
+use Rattle.jn_script.specs.declared.step.Step.TheVariants.{Remove}
+use Rattle.jn_script.specs.Script.{AreSteps, CanTake, IsStep, behind_all, has, lines, names_behind, without}
+use Rattle.jn_script.specs.Telling.{Takes}
 
 -- ---- names
 
@@ -70,36 +70,6 @@ pub removed : (name : List ℕ) (names new : List (List ℕ)) (there : Bool) →
 removed name names new true is out = (sym is, out)
 removed name names new false is out = λ h. differ (sym h ∙ sym is)
 
--- ---- a line is at most one step
-
-same_words : (one other : Step) → words_of one ≡ words_of other → one ≡ other
-same_words Empty Empty e = refl
-same_words Empty (Set name file) e = absurd cc
-same_words Empty (Remove name) e = absurd cc
-same_words Empty Check e = absurd cc
-same_words (Set name file) Empty e = absurd cc
-same_words (Set name file) (Set other more) e = cc
-same_words (Set name file) (Remove other) e = absurd cc
-same_words (Set name file) Check e = absurd cc
-same_words (Remove name) Empty e = absurd cc
-same_words (Remove name) (Set other more) e = absurd cc
-same_words (Remove name) (Remove other) e = cc
-same_words (Remove name) Check e = absurd cc
-same_words Check Empty e = absurd cc
-same_words Check (Set other more) e = absurd cc
-same_words Check (Remove other) e = absurd cc
-same_words Check Check e = refl
-
-one_step : (line : List ℕ) (one other : Step) → IsStep line one → IsStep line other → one ≡ other
-one_step line one other x y = same_words one other (sym x.words ∙ y.words)
-
--- its step can't be taken
-pub bad_line : (names : List (List ℕ)) (line : List ℕ) (step : Step) → IsStep line step → (CanTake names step → ⊥) → IsBad names line
-bad_line names line step is cannot other also can = cannot (subst (CanTake names) (one_step line other step also is) can)
-
-pub no_line : (names : List (List ℕ)) (line : List ℕ) → ((step : Step) → IsStep line step → ⊥) → IsBad names line
-no_line names line none step is can = none step is
-
 -- ---- steps, line by line
 
 steps_more : (names : List (List ℕ)) (front : List (List ℕ)) (steps : List Step) (line : List ℕ) (step : Step) → AreSteps names front steps → IsStep line step → CanTake (behind_all names steps) step → AreSteps names (front ++ line ∷ []) (steps ++ step ∷ [])
@@ -148,20 +118,3 @@ module _ (script rest behind text : List ℕ) (names : List (List ℕ)) (steps :
     place = ap (λ n. n + 1) (to.place ∙ sym (one_longer to.front text));
     room = (let r = to.room in omega (arith, r, less));
   }
-
-  pub first_bad : IsBad names text → IsFirstBad script line
-  first_bad bad = record {
-    front = to.front;
-    steps = steps;
-    line = text;
-    back = lines behind;
-    split = split;
-    place = to.place;
-    good = to.good;
-    bad = λ step is can. bad step is (subst (λ ns. CanTake ns step) (sym to.behind) can);
-  }
-
--- all lines are read
-pub read_whole : (script rest : List ℕ) (names : List (List ℕ)) (steps : List Step) (line : ℕ) → ReadTo script rest names steps line → (0 < length rest → ⊥) → IsScript script steps
-read_whole script [] names steps line to none = subst (λ ls. AreSteps [] ls steps) (sym (to.split ∙ append-nil to.front)) to.good
-read_whole script (byte ∷ bytes) names steps line to none = absurd (none (omega arith))

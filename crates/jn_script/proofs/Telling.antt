@@ -1,11 +1,11 @@
 -- The step of a line's words.
-use Rattle.std.proofs.Common.{◌≡◌, ℕ, true, false, List, [], ◌∷◌, Option, Some, None, sym, ap, ◌∙◌, subst}
+use Rattle.std.proofs.Common.{◌≡◌, ℕ, true, false, List, [], ◌∷◌, Some, None, sym, ap, ◌∙◌, subst}
 use Rattle.std.specs.Prelude.{bytes_eq, codes}
 use Rattle.std.proofs.lemmas.Slice.Eq.{bytes_eq-Decides}
 use Rattle.jn_script.specs.declared.step.Step.{Step}
 use Rattle.jn_script.specs.declared.step.Step.TheVariants.{Empty, Set, Remove, Check}
-use Rattle.jn_script.specs.Script.{IsName, pieces, words_of}
-use Rattle.jn_script.specs.Telling.{AreWordsOf, HasMore, IsStepOr, IsToldOf}
+use Rattle.jn_script.specs.Script.{IsName}
+use Rattle.jn_script.specs.Telling.{AreWordsOf, IsToldOf}
 
 pub same_text : (xs ys : List ℕ) → bytes_eq xs ys ≡ true → xs ≡ ys
 same_text xs ys e = (bytes_eq-Decides xs ys).0 e
@@ -83,20 +83,3 @@ told_no_set word name file e step a = e (only_setting word name file step a).1
 
 pub told_no_file : (word name file : List ℕ) → (IsName file → ⊥) → IsToldOf (word ∷ name ∷ file ∷ []) None
 told_no_file word name file e step a = e (only_setting word name file step a).2
-
--- ---- lines
-
--- what is told of a line's words is told of the line
-pub of_words : (line : List ℕ) (words : List (List ℕ)) (found : Option Step) → pieces 32 line ≡ words → IsToldOf words found → IsStepOr line found
-of_words line words None are told = λ step is. told step (sym are ∙ is.words, is.names)
-of_words line words (Some step) are told = record { words = are ∙ told.0; names = told.1 }
-
--- a line of four words or more
-pub of_more : (line : List ℕ) → HasMore line → IsStepOr line None
-of_more line more step is = by step (sym more.are ∙ is.words)
-  where
-    by : (step : Step) → more.one ∷ more.two ∷ more.three ∷ more.four ∷ more.rest ≡ words_of step → ⊥
-    by Empty e = none_is more.two (more.three ∷ more.four ∷ more.rest) (rest_is more.one [] (more.two ∷ more.three ∷ more.four ∷ more.rest) [] e)
-    by (Set name file) e = none_is more.four more.rest (rest_is more.three file (more.four ∷ more.rest) [] (rest_is more.two name (more.three ∷ more.four ∷ more.rest) (file ∷ []) (rest_is more.one (codes "set") (more.two ∷ more.three ∷ more.four ∷ more.rest) (name ∷ file ∷ []) e)))
-    by (Remove name) e = none_is more.three (more.four ∷ more.rest) (rest_is more.two name (more.three ∷ more.four ∷ more.rest) [] (rest_is more.one (codes "drop") (more.two ∷ more.three ∷ more.four ∷ more.rest) (name ∷ []) e))
-    by Check e = none_is more.two (more.three ∷ more.four ∷ more.rest) (rest_is more.one (codes "check") (more.two ∷ more.three ∷ more.four ∷ more.rest) [] e)

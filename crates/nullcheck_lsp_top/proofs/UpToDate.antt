@@ -10,8 +10,9 @@ use Rattle.jn_lsp_text.specs.declared.reply.Reply.{Reply}
 use Rattle.jn_lsp_text.specs.declared.reply.Reply.TheVariants.{Show}
 use Rattle.jn_lsp.specs.declared.event.Event.{Event}
 use Rattle.jn_lsp.specs.declared.event.Event.TheVariants.{Folder, Message as MessageEvent}
-use Rattle.jn_lsp.specs.Publications.{last_published, published}
+use Rattle.jn_lsp.specs.Publications.{last_published}
 use Rattle.jn_lsp.specs.Serving.{ArePublishedLast, IsUpToDate, ServerOf, Serves, Takes, files_of, new_server}
+use Rattle.jn_lsp.proofs.LastPublished.{last_both}
 use Rattle.nullcheck_lsp_top.specs.declared.client.Client.{Client}
 use Rattle.nullcheck_lsp_top.specs.Announcing.{begins, ends}
 use Rattle.nullcheck_lsp_top.specs.Hearing.{Hears, HearsAll, LooksWhere, announced, begun, ended, foreign, looks, noticed, taken_as}
@@ -20,10 +21,6 @@ use Rattle.nullcheck_lsp_top.specs.Placing.{asks, is_asked, says}
 use Rattle.nullcheck_lsp_top.specs.Reading.{is_among, shows}
 
 -- ---- what was published last
-
-last_both : (name : List ℕ) (before : List Diagnostic) (xs ys : List Reply) → last_published name before (xs ++ ys) ≡ last_published name (last_published name before xs) ys
-last_both name before [] ys = refl
-last_both name before (x ∷ xs) ys = last_both name (published name before x) xs ys
 
 -- what is shown publishes nothing
 shown_last : (name : List ℕ) (before : List Diagnostic) (words : List (List ℕ)) → last_published name before (map Show words) ≡ before

@@ -306,12 +306,19 @@ fn placed_name(
     Ok(placed)
 }
 
-fn or_same(placed: Option<Text>, name: Text) -> Text
-    ensures { result ≡ spec.or_same placed name }
+/// The name by which a document is open or one of the workspace's; its own where it is neither.
+fn placed_or_same(
+    alloc: Global,
+    root: &Root,
+    documents: &[SourceFile],
+    name: Text,
+) -> Result<Text, AllocError>
+    ensures { IfOk result
+        (λ placed. placed ≡ spec.or_same (spec.placed_name root.now documents.now name) name) }
 {
-    match placed {
-        None => name,
-        Some(placed) => placed,
+    match placed_name(alloc, root, documents, &name)? {
+        None => Ok(name),
+        Some(placed) => Ok(placed),
     }
 }
 
@@ -357,30 +364,21 @@ pub(crate) fn placed(
             None => Ok(Message::Ignored),
             Some(name) => Ok(Message::BadDocument { name }),
         },
-        Message::CodeAction { id, name, range } => {
-            let placed = placed_name(alloc, root, documents, &name)?;
-            Ok(Message::CodeAction {
-                id,
-                name: or_same(placed, name),
-                range,
-            })
-        }
-        Message::InlayHint { id, name, range } => {
-            let placed = placed_name(alloc, root, documents, &name)?;
-            Ok(Message::InlayHint {
-                id,
-                name: or_same(placed, name),
-                range,
-            })
-        }
-        Message::Hover { id, name, position } => {
-            let placed = placed_name(alloc, root, documents, &name)?;
-            Ok(Message::Hover {
-                id,
-                name: or_same(placed, name),
-                position,
-            })
-        }
+        Message::CodeAction { id, name, range } => Ok(Message::CodeAction {
+            id,
+            name: placed_or_same(alloc, root, documents, name)?,
+            range,
+        }),
+        Message::InlayHint { id, name, range } => Ok(Message::InlayHint {
+            id,
+            name: placed_or_same(alloc, root, documents, name)?,
+            range,
+        }),
+        Message::Hover { id, name, position } => Ok(Message::Hover {
+            id,
+            name: placed_or_same(alloc, root, documents, name)?,
+            position,
+        }),
         other => Ok(other),
     }
 }

@@ -12,4 +12,4 @@ pub loop-head-preserved : goal.loop-head-preserved
 loop-head-preserved c =
     class_none c.args.heads.now c.loop-head.head-index c.head-item.result c.as_slice.result.now c.loop-head.rest.now (omega (arith, c.loop-head-test.true)) c.head-item.is c.as_slice.ensures
     c.args.file c.args.offset c.in_methods-found.result (declared_at c.args.file c.args.offset (declared_methods (methods_of c.args.heads.now) c.args.methods.now)) c.in_methods-found.ensures c.loop-head.invariant
-    c.len.result c.methods_behind-rest.result.now (c.len.ensures ∙ ap length (sym c.as_slice.ensures)) c.methods_behind-rest.ensures (sym c.is_some.ensures ∙ c.if-is_some.false)
+    c.len.result c.items_behind-rest.result.now (c.len.ensures ∙ ap length (sym c.as_slice.ensures)) c.items_behind-rest.ensures (sym c.is_some.ensures ∙ c.if-is_some.false)

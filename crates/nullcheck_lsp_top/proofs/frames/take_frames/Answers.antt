@@ -11,140 +11,63 @@ use Rattle.nullcheck_lsp_top.proofs.frames.take_frames.Goals as goal
 
 pub returns-in-Ok-End-clause-answer : goal.returns-in-Ok-End-clause-answer
 returns-in-Ok-End-clause-answer g c =
-    let held = g.F.Files.held c.args.files.now in
-    let from = channels (g.S.Stream.given c.args.input.now) (g.S.Stream.ended c.args.input.now) (g.S.Stream.faults c.args.input.now) (g.S.Stream.asked c.args.input.now) (g.K.Sink.written c.args.out.now) (g.K.Sink.faults c.args.out.now) in
-    let old = outside (g.D.Folder.told c.args.folder.now) (g.D.Folder.faults c.args.folder.now) (g.F.Files.gave c.args.files.now) (g.F.Files.faults c.args.files.now) in
-    let mid = channels (g.S.Stream.given c.loop-turn.input) (g.S.Stream.ended c.loop-turn.input) (g.S.Stream.faults c.loop-turn.input) (g.S.Stream.asked c.loop-turn.input) (g.K.Sink.written c.loop-turn.out) (g.K.Sink.faults c.loop-turn.out) in
-    let out = outside (g.D.Folder.told c.loop-turn.folder) (g.D.Folder.faults c.loop-turn.folder) (g.F.Files.gave c.loop-turn.files) (g.F.Files.faults c.loop-turn.files) in
-    let pending = c.loop-turn.reader.pending.items in
     let read = channels (g.S.Stream.given c.next.new.input) (g.S.Stream.ended c.next.new.input) (g.S.Stream.faults c.next.new.input) (g.S.Stream.asked c.next.new.input) (g.K.Sink.written c.loop-turn.out) (g.K.Sink.faults c.loop-turn.out) in
-    let left = c.next.new.self.pending.items in
-    let end = c.in-Ok-End.field-0-0 in
-    let has : HasRead read.ended mid.given pending read.given left (next.End end) = subst (λ f. HasRead read.ended mid.given pending read.given left f) c.in-Ok-End.field-0-is c.in-Ok-End.ensures.read in
-    ends_input c.args.setup.now held from mid old out c.loop-turn._turn pending c.loop-turn.client c.loop-turn.invariant.runs read left end has refl refl c.in-Ok-End.ensures.cause
+    ends_input _ _ _ _ _ _ _ _ _ c.loop-turn.invariant.runs read c.next.new.self.pending.items c.in-Ok-End.field-0-0 (rw c.in-Ok-End.field-0-is at c.in-Ok-End.ensures.read) refl refl c.in-Ok-End.ensures.cause
 
 pub returns-in-Err-Refused-clause-answer : goal.returns-in-Err-Refused-clause-answer
 returns-in-Err-Refused-clause-answer g c =
-    let held = g.F.Files.held c.args.files.now in
-    let from = channels (g.S.Stream.given c.args.input.now) (g.S.Stream.ended c.args.input.now) (g.S.Stream.faults c.args.input.now) (g.S.Stream.asked c.args.input.now) (g.K.Sink.written c.args.out.now) (g.K.Sink.faults c.args.out.now) in
-    let old = outside (g.D.Folder.told c.args.folder.now) (g.D.Folder.faults c.args.folder.now) (g.F.Files.gave c.args.files.now) (g.F.Files.faults c.args.files.now) in
-    let mid = channels (g.S.Stream.given c.loop-turn.input) (g.S.Stream.ended c.loop-turn.input) (g.S.Stream.faults c.loop-turn.input) (g.S.Stream.asked c.loop-turn.input) (g.K.Sink.written c.loop-turn.out) (g.K.Sink.faults c.loop-turn.out) in
-    let out = outside (g.D.Folder.told c.loop-turn.folder) (g.D.Folder.faults c.loop-turn.folder) (g.F.Files.gave c.loop-turn.files) (g.F.Files.faults c.loop-turn.files) in
-    let pending = c.loop-turn.reader.pending.items in
     let read = channels (g.S.Stream.given c.next.new.input) (g.S.Stream.ended c.next.new.input) (g.S.Stream.faults c.next.new.input) (g.S.Stream.asked c.next.new.input) (g.K.Sink.written c.loop-turn.out) (g.K.Sink.faults c.loop-turn.out) in
-    let left = c.next.new.self.pending.items in
-    let lacks = lacks_refused Next _ IsPartial mid.given pending read.given c.in-Err-Refused.field-0 c.in-Err-Refused.field-0-0 c.in-Err-Refused.field-0-is c.in-Err-Refused.ensures.lacks in
-    ends_unread c.args.setup.now held from mid old out c.loop-turn._turn pending c.loop-turn.client c.loop-turn.invariant.runs read lacks.0 lacks.1 lacks.2 refl refl (counts_refused Next _ mid.hears read.hears c.in-Err-Refused.field-0 c.in-Err-Refused.field-0-0 c.in-Err-Refused.field-0-is c.in-Err-Refused.ensures.cause)
+    let lacks = lacks_refused Next _ IsPartial (g.S.Stream.given c.loop-turn.input) c.loop-turn.reader.pending.items read.given c.in-Err-Refused.field-0 c.in-Err-Refused.field-0-0 c.in-Err-Refused.field-0-is c.in-Err-Refused.ensures.lacks in
+    ends_unread _ _ _ _ _ _ _ _ _ c.loop-turn.invariant.runs read lacks.0 lacks.1 lacks.2 refl refl (counts_refused Next _ (g.S.Stream.faults c.loop-turn.input) read.hears c.in-Err-Refused.field-0 c.in-Err-Refused.field-0-0 c.in-Err-Refused.field-0-is c.in-Err-Refused.ensures.cause)
 
 pub returns-in-Err-OutOfMemory-clause-answer : goal.returns-in-Err-OutOfMemory-clause-answer
 returns-in-Err-OutOfMemory-clause-answer g c =
-    let held = g.F.Files.held c.args.files.now in
-    let from = channels (g.S.Stream.given c.args.input.now) (g.S.Stream.ended c.args.input.now) (g.S.Stream.faults c.args.input.now) (g.S.Stream.asked c.args.input.now) (g.K.Sink.written c.args.out.now) (g.K.Sink.faults c.args.out.now) in
-    let old = outside (g.D.Folder.told c.args.folder.now) (g.D.Folder.faults c.args.folder.now) (g.F.Files.gave c.args.files.now) (g.F.Files.faults c.args.files.now) in
-    let mid = channels (g.S.Stream.given c.loop-turn.input) (g.S.Stream.ended c.loop-turn.input) (g.S.Stream.faults c.loop-turn.input) (g.S.Stream.asked c.loop-turn.input) (g.K.Sink.written c.loop-turn.out) (g.K.Sink.faults c.loop-turn.out) in
-    let out = outside (g.D.Folder.told c.loop-turn.folder) (g.D.Folder.faults c.loop-turn.folder) (g.F.Files.gave c.loop-turn.files) (g.F.Files.faults c.loop-turn.files) in
-    let pending = c.loop-turn.reader.pending.items in
     let read = channels (g.S.Stream.given c.next.new.input) (g.S.Stream.ended c.next.new.input) (g.S.Stream.faults c.next.new.input) (g.S.Stream.asked c.next.new.input) (g.K.Sink.written c.loop-turn.out) (g.K.Sink.faults c.loop-turn.out) in
-    let left = c.next.new.self.pending.items in
-    ends_short c.args.setup.now held from mid old out c.loop-turn._turn pending c.loop-turn.client c.loop-turn.invariant.runs read c.in-Err-OutOfMemory.ensures.grows refl refl (counts_short Next _ mid.hears read.hears c.in-Err-OutOfMemory.field-0 c.in-Err-OutOfMemory.field-0-is c.in-Err-OutOfMemory.ensures.cause)
+    ends_short _ _ _ _ _ _ _ _ _ c.loop-turn.invariant.runs read c.in-Err-OutOfMemory.ensures.grows refl refl (counts_short Next _ (g.S.Stream.faults c.loop-turn.input) read.hears c.in-Err-OutOfMemory.field-0 c.in-Err-OutOfMemory.field-0-is c.in-Err-OutOfMemory.ensures.cause)
 
 pub returns-in-Ends-clause-answer : goal.returns-in-Ends-clause-answer
 returns-in-Ends-clause-answer g c =
     let held = g.F.Files.held c.args.files.now in
-    let from = channels (g.S.Stream.given c.args.input.now) (g.S.Stream.ended c.args.input.now) (g.S.Stream.faults c.args.input.now) (g.S.Stream.asked c.args.input.now) (g.K.Sink.written c.args.out.now) (g.K.Sink.faults c.args.out.now) in
-    let old = outside (g.D.Folder.told c.args.folder.now) (g.D.Folder.faults c.args.folder.now) (g.F.Files.gave c.args.files.now) (g.F.Files.faults c.args.files.now) in
-    let mid = channels (g.S.Stream.given c.loop-turn.input) (g.S.Stream.ended c.loop-turn.input) (g.S.Stream.faults c.loop-turn.input) (g.S.Stream.asked c.loop-turn.input) (g.K.Sink.written c.loop-turn.out) (g.K.Sink.faults c.loop-turn.out) in
     let out = outside (g.D.Folder.told c.loop-turn.folder) (g.D.Folder.faults c.loop-turn.folder) (g.F.Files.gave c.loop-turn.files) (g.F.Files.faults c.loop-turn.files) in
-    let pending = c.loop-turn.reader.pending.items in
     let read = channels (g.S.Stream.given c.next.new.input) (g.S.Stream.ended c.next.new.input) (g.S.Stream.faults c.next.new.input) (g.S.Stream.asked c.next.new.input) (g.K.Sink.written c.loop-turn.out) (g.K.Sink.faults c.loop-turn.out) in
-    let left = c.next.new.self.pending.items in
     let to = channels (g.S.Stream.given c.next.new.input) (g.S.Stream.ended c.next.new.input) (g.S.Stream.faults c.next.new.input) (g.S.Stream.asked c.next.new.input) (g.K.Sink.written c.take_frame.new.out) (g.K.Sink.faults c.take_frame.new.out) in
     let new = outside (g.D.Folder.told c.take_frame.new.folder) (g.D.Folder.faults c.take_frame.new.folder) (g.F.Files.gave c.take_frame.new.files) (g.F.Files.faults c.take_frame.new.files) in
     let frame = c.in-Ok-Frame.frame in
     let after = c.take_frame.new.client in
-    let has : HasRead read.ended mid.given pending read.given left (next.Frame frame) = subst (λ f. HasRead read.ended mid.given pending read.given left f) c.in-Ok-Frame.field-0-is c.in-Ok-Frame.ensures.read in
+    let has : HasRead read.ended (g.S.Stream.given c.loop-turn.input) c.loop-turn.reader.pending.items read.given c.next.new.self.pending.items (next.Frame frame) = rw c.in-Ok-Frame.field-0-is at c.in-Ok-Frame.ensures.read in
     let by : EndsBy c.args.setup.now.address held read.written to.written read.writes to.writes out new c.loop-turn.client frame after c.in-Ends.status = subst (λ h. EndsBy c.args.setup.now.address h read.written to.written read.writes to.writes out new c.loop-turn.client frame after c.in-Ends.status) c.loop-turn.invariant.held c.in-Ends.ensures.heard in
-    ends_frame c.args.setup.now held from mid old out c.loop-turn._turn pending c.loop-turn.client c.loop-turn.invariant.runs read to new left frame after has refl refl c.in-Ok-Frame.ensures.cause refl refl c.in-Ends.status by
+    ends_frame _ _ _ _ _ _ _ _ _ c.loop-turn.invariant.runs read to new c.next.new.self.pending.items frame after has refl refl c.in-Ok-Frame.ensures.cause refl refl c.in-Ends.status by
 
 pub returns-clause-answer : goal.returns-clause-answer
-returns-clause-answer g c =
-    let held = g.F.Files.held c.args.files.now in
-    let from = channels (g.S.Stream.given c.args.input.now) (g.S.Stream.ended c.args.input.now) (g.S.Stream.faults c.args.input.now) (g.S.Stream.asked c.args.input.now) (g.K.Sink.written c.args.out.now) (g.K.Sink.faults c.args.out.now) in
-    let old = outside (g.D.Folder.told c.args.folder.now) (g.D.Folder.faults c.args.folder.now) (g.F.Files.gave c.args.files.now) (g.F.Files.faults c.args.files.now) in
-    let mid = channels (g.S.Stream.given c.loop-turn.input) (g.S.Stream.ended c.loop-turn.input) (g.S.Stream.faults c.loop-turn.input) (g.S.Stream.asked c.loop-turn.input) (g.K.Sink.written c.loop-turn.out) (g.K.Sink.faults c.loop-turn.out) in
-    let out = outside (g.D.Folder.told c.loop-turn.folder) (g.D.Folder.faults c.loop-turn.folder) (g.F.Files.gave c.loop-turn.files) (g.F.Files.faults c.loop-turn.files) in
-    let pending = c.loop-turn.reader.pending.items in
-    ends_turns c.args.setup.now held from mid old out c.loop-turn._turn pending c.loop-turn.client c.loop-turn.invariant.runs c.loop-turn-test.false
+returns-clause-answer g c = ends_turns _ _ _ _ _ _ _ _ _ c.loop-turn.invariant.runs c.loop-turn-test.false
 
 pub returns-in-Ok-End-clause-in_time : goal.returns-in-Ok-End-clause-in_time
-returns-in-Ok-End-clause-in_time g c =
-    let held = g.F.Files.held c.args.files.now in
-    let from = channels (g.S.Stream.given c.args.input.now) (g.S.Stream.ended c.args.input.now) (g.S.Stream.faults c.args.input.now) (g.S.Stream.asked c.args.input.now) (g.K.Sink.written c.args.out.now) (g.K.Sink.faults c.args.out.now) in
-    let old = outside (g.D.Folder.told c.args.folder.now) (g.D.Folder.faults c.args.folder.now) (g.F.Files.gave c.args.files.now) (g.F.Files.faults c.args.files.now) in
-    let mid = channels (g.S.Stream.given c.loop-turn.input) (g.S.Stream.ended c.loop-turn.input) (g.S.Stream.faults c.loop-turn.input) (g.S.Stream.asked c.loop-turn.input) (g.K.Sink.written c.loop-turn.out) (g.K.Sink.faults c.loop-turn.out) in
-    let out = outside (g.D.Folder.told c.loop-turn.folder) (g.D.Folder.faults c.loop-turn.folder) (g.F.Files.gave c.loop-turn.files) (g.F.Files.faults c.loop-turn.files) in
-    let pending = c.loop-turn.reader.pending.items in
-    let read = channels (g.S.Stream.given c.next.new.input) (g.S.Stream.ended c.next.new.input) (g.S.Stream.faults c.next.new.input) (g.S.Stream.asked c.next.new.input) (g.K.Sink.written c.loop-turn.out) (g.K.Sink.faults c.loop-turn.out) in
-    let left = c.next.new.self.pending.items in
-    in_time_more c.args.setup.now held from mid read old out c.loop-turn._turn pending c.loop-turn.client c.loop-turn.invariant.runs c.loop-turn.invariant.in_time c.in-Ok-End.ensures.asked
+returns-in-Ok-End-clause-in_time g c = in_time_more _ _ _ _ _ _ _ _ _ _ c.loop-turn.invariant.runs c.loop-turn.invariant.in_time c.in-Ok-End.ensures.asked
 
 pub returns-in-Err-Refused-clause-in_time : goal.returns-in-Err-Refused-clause-in_time
-returns-in-Err-Refused-clause-in_time g c =
-    let held = g.F.Files.held c.args.files.now in
-    let from = channels (g.S.Stream.given c.args.input.now) (g.S.Stream.ended c.args.input.now) (g.S.Stream.faults c.args.input.now) (g.S.Stream.asked c.args.input.now) (g.K.Sink.written c.args.out.now) (g.K.Sink.faults c.args.out.now) in
-    let old = outside (g.D.Folder.told c.args.folder.now) (g.D.Folder.faults c.args.folder.now) (g.F.Files.gave c.args.files.now) (g.F.Files.faults c.args.files.now) in
-    let mid = channels (g.S.Stream.given c.loop-turn.input) (g.S.Stream.ended c.loop-turn.input) (g.S.Stream.faults c.loop-turn.input) (g.S.Stream.asked c.loop-turn.input) (g.K.Sink.written c.loop-turn.out) (g.K.Sink.faults c.loop-turn.out) in
-    let out = outside (g.D.Folder.told c.loop-turn.folder) (g.D.Folder.faults c.loop-turn.folder) (g.F.Files.gave c.loop-turn.files) (g.F.Files.faults c.loop-turn.files) in
-    let pending = c.loop-turn.reader.pending.items in
-    let read = channels (g.S.Stream.given c.next.new.input) (g.S.Stream.ended c.next.new.input) (g.S.Stream.faults c.next.new.input) (g.S.Stream.asked c.next.new.input) (g.K.Sink.written c.loop-turn.out) (g.K.Sink.faults c.loop-turn.out) in
-    let left = c.next.new.self.pending.items in
-    in_time_more c.args.setup.now held from mid read old out c.loop-turn._turn pending c.loop-turn.client c.loop-turn.invariant.runs c.loop-turn.invariant.in_time c.in-Err-Refused.ensures.asked
+returns-in-Err-Refused-clause-in_time g c = in_time_more _ _ _ _ _ _ _ _ _ _ c.loop-turn.invariant.runs c.loop-turn.invariant.in_time c.in-Err-Refused.ensures.asked
 
 pub returns-in-Err-OutOfMemory-clause-in_time : goal.returns-in-Err-OutOfMemory-clause-in_time
-returns-in-Err-OutOfMemory-clause-in_time g c =
-    let held = g.F.Files.held c.args.files.now in
-    let from = channels (g.S.Stream.given c.args.input.now) (g.S.Stream.ended c.args.input.now) (g.S.Stream.faults c.args.input.now) (g.S.Stream.asked c.args.input.now) (g.K.Sink.written c.args.out.now) (g.K.Sink.faults c.args.out.now) in
-    let old = outside (g.D.Folder.told c.args.folder.now) (g.D.Folder.faults c.args.folder.now) (g.F.Files.gave c.args.files.now) (g.F.Files.faults c.args.files.now) in
-    let mid = channels (g.S.Stream.given c.loop-turn.input) (g.S.Stream.ended c.loop-turn.input) (g.S.Stream.faults c.loop-turn.input) (g.S.Stream.asked c.loop-turn.input) (g.K.Sink.written c.loop-turn.out) (g.K.Sink.faults c.loop-turn.out) in
-    let out = outside (g.D.Folder.told c.loop-turn.folder) (g.D.Folder.faults c.loop-turn.folder) (g.F.Files.gave c.loop-turn.files) (g.F.Files.faults c.loop-turn.files) in
-    let pending = c.loop-turn.reader.pending.items in
-    let read = channels (g.S.Stream.given c.next.new.input) (g.S.Stream.ended c.next.new.input) (g.S.Stream.faults c.next.new.input) (g.S.Stream.asked c.next.new.input) (g.K.Sink.written c.loop-turn.out) (g.K.Sink.faults c.loop-turn.out) in
-    let left = c.next.new.self.pending.items in
-    in_time_more c.args.setup.now held from mid read old out c.loop-turn._turn pending c.loop-turn.client c.loop-turn.invariant.runs c.loop-turn.invariant.in_time c.in-Err-OutOfMemory.ensures.asked
+returns-in-Err-OutOfMemory-clause-in_time g c = in_time_more _ _ _ _ _ _ _ _ _ _ c.loop-turn.invariant.runs c.loop-turn.invariant.in_time c.in-Err-OutOfMemory.ensures.asked
 
 pub returns-in-Ends-clause-in_time : goal.returns-in-Ends-clause-in_time
-returns-in-Ends-clause-in_time g c =
-    let held = g.F.Files.held c.args.files.now in
-    let from = channels (g.S.Stream.given c.args.input.now) (g.S.Stream.ended c.args.input.now) (g.S.Stream.faults c.args.input.now) (g.S.Stream.asked c.args.input.now) (g.K.Sink.written c.args.out.now) (g.K.Sink.faults c.args.out.now) in
-    let old = outside (g.D.Folder.told c.args.folder.now) (g.D.Folder.faults c.args.folder.now) (g.F.Files.gave c.args.files.now) (g.F.Files.faults c.args.files.now) in
-    let mid = channels (g.S.Stream.given c.loop-turn.input) (g.S.Stream.ended c.loop-turn.input) (g.S.Stream.faults c.loop-turn.input) (g.S.Stream.asked c.loop-turn.input) (g.K.Sink.written c.loop-turn.out) (g.K.Sink.faults c.loop-turn.out) in
-    let out = outside (g.D.Folder.told c.loop-turn.folder) (g.D.Folder.faults c.loop-turn.folder) (g.F.Files.gave c.loop-turn.files) (g.F.Files.faults c.loop-turn.files) in
-    let pending = c.loop-turn.reader.pending.items in
-    let read = channels (g.S.Stream.given c.next.new.input) (g.S.Stream.ended c.next.new.input) (g.S.Stream.faults c.next.new.input) (g.S.Stream.asked c.next.new.input) (g.K.Sink.written c.loop-turn.out) (g.K.Sink.faults c.loop-turn.out) in
-    let left = c.next.new.self.pending.items in
-    let to = channels (g.S.Stream.given c.next.new.input) (g.S.Stream.ended c.next.new.input) (g.S.Stream.faults c.next.new.input) (g.S.Stream.asked c.next.new.input) (g.K.Sink.written c.take_frame.new.out) (g.K.Sink.faults c.take_frame.new.out) in
-    in_time_more c.args.setup.now held from mid to old out c.loop-turn._turn pending c.loop-turn.client c.loop-turn.invariant.runs c.loop-turn.invariant.in_time c.in-Ok-Frame.ensures.asked
+returns-in-Ends-clause-in_time g c = in_time_more _ _ _ _ _ _ _ _ _ _ c.loop-turn.invariant.runs c.loop-turn.invariant.in_time c.in-Ok-Frame.ensures.asked
 
 pub loop-turn-preserved : goal.loop-turn-preserved
 loop-turn-preserved g c =
     let held = g.F.Files.held c.args.files.now in
-    let from = channels (g.S.Stream.given c.args.input.now) (g.S.Stream.ended c.args.input.now) (g.S.Stream.faults c.args.input.now) (g.S.Stream.asked c.args.input.now) (g.K.Sink.written c.args.out.now) (g.K.Sink.faults c.args.out.now) in
-    let old = outside (g.D.Folder.told c.args.folder.now) (g.D.Folder.faults c.args.folder.now) (g.F.Files.gave c.args.files.now) (g.F.Files.faults c.args.files.now) in
-    let mid = channels (g.S.Stream.given c.loop-turn.input) (g.S.Stream.ended c.loop-turn.input) (g.S.Stream.faults c.loop-turn.input) (g.S.Stream.asked c.loop-turn.input) (g.K.Sink.written c.loop-turn.out) (g.K.Sink.faults c.loop-turn.out) in
     let out = outside (g.D.Folder.told c.loop-turn.folder) (g.D.Folder.faults c.loop-turn.folder) (g.F.Files.gave c.loop-turn.files) (g.F.Files.faults c.loop-turn.files) in
-    let pending = c.loop-turn.reader.pending.items in
     let read = channels (g.S.Stream.given c.next.new.input) (g.S.Stream.ended c.next.new.input) (g.S.Stream.faults c.next.new.input) (g.S.Stream.asked c.next.new.input) (g.K.Sink.written c.loop-turn.out) (g.K.Sink.faults c.loop-turn.out) in
-    let left = c.next.new.self.pending.items in
     let to = channels (g.S.Stream.given c.next.new.input) (g.S.Stream.ended c.next.new.input) (g.S.Stream.faults c.next.new.input) (g.S.Stream.asked c.next.new.input) (g.K.Sink.written c.take_frame.new.out) (g.K.Sink.faults c.take_frame.new.out) in
     let new = outside (g.D.Folder.told c.take_frame.new.folder) (g.D.Folder.faults c.take_frame.new.folder) (g.F.Files.gave c.take_frame.new.files) (g.F.Files.faults c.take_frame.new.files) in
     let frame = c.in-Ok-Frame.frame in
     let after = c.take_frame.new.client in
-    let has : HasRead read.ended mid.given pending read.given left (next.Frame frame) = subst (λ f. HasRead read.ended mid.given pending read.given left f) c.in-Ok-Frame.field-0-is c.in-Ok-Frame.ensures.read in
+    let has : HasRead read.ended (g.S.Stream.given c.loop-turn.input) c.loop-turn.reader.pending.items read.given c.next.new.self.pending.items (next.Frame frame) = rw c.in-Ok-Frame.field-0-is at c.in-Ok-Frame.ensures.read in
     let heard : IsHeard c.args.setup.now.address held read.written to.written read.writes to.writes out new c.loop-turn.client frame after Goes = subst (λ h. IsHeard c.args.setup.now.address h read.written to.written read.writes to.writes out new c.loop-turn.client frame after Goes) c.loop-turn.invariant.held c.in-Goes.ensures.heard in
     record {
       held = c.in-Goes.ensures.held ∙ c.loop-turn.invariant.held;
-      runs = runs_more c.args.setup.now held from mid old out c.loop-turn._turn pending c.loop-turn.client c.loop-turn.invariant.runs read to new left frame after has refl refl c.in-Ok-Frame.ensures.cause refl refl heard.0 heard.1;
-      in_time = in_time_more c.args.setup.now held from mid to old out c.loop-turn._turn pending c.loop-turn.client c.loop-turn.invariant.runs c.loop-turn.invariant.in_time c.in-Ok-Frame.ensures.asked;
+      runs = runs_more _ _ _ _ _ _ _ _ _ c.loop-turn.invariant.runs read to new c.next.new.self.pending.items frame after has refl refl c.in-Ok-Frame.ensures.cause refl refl heard.0 heard.1;
+      in_time = in_time_more _ _ _ _ _ _ _ _ _ _ c.loop-turn.invariant.runs c.loop-turn.invariant.in_time c.in-Ok-Frame.ensures.asked;
     }
 
 pub loop-turn-init : goal.loop-turn-init
