@@ -1,3 +1,4 @@
 pub mod Owned
+pub mod Leaving
 pub mod Worded
 pub mod Unkept

@@ -4,7 +4,7 @@ use Rattle.jn_base.specs.declared.place.Span.{Span}
 use Rattle.jn_points.specs.declared.point.Operand.{Operand}
 use Rattle.jn_points.specs.declared.point.Point.{Point}
 use Rattle.jn_points.specs.declared.point.PointKind.{PointKind}
-use Rattle.jn_points.specs.declared.point.PointKind.TheVariants.{Call, Const, CtorCall, ElemRead, FieldRead, New, Return}
+use Rattle.jn_points.specs.declared.point.PointKind.TheVariants.{Call, Const, CtorCall, ElemRead, FieldRead, FieldWrite, New, Return}
 use Rattle.jn_points.specs.declared.program.Field.{Field}
 use Rattle.jn_points.specs.declared.program.Method.{Method}
 use Rattle.jn_points.specs.declared.program.Program.{Program}
@@ -83,6 +83,28 @@ kind_words kind = codes "it is made at"
 abbrev pub read_words : Option Point → List ℕ
 read_words None = codes "it is made at"
 read_words (Some pt) = kind_words pt.kind
+
+-- how a fact on a field was made: by an assignment to it, or else by a test
+abbrev pub made_by : PointKind → List ℕ
+made_by (FieldWrite object f value) = codes "` was assigned at"
+made_by kind = codes "` was tested at"
+
+-- the same of a point that may be missing
+abbrev pub how_made : Option Point → List ℕ
+how_made None = codes "` was tested at"
+how_made (Some pt) = made_by pt.kind
+
+-- the words for what ended a fact on a field: a call, or else an assignment
+abbrev pub ends_by : PointKind → List ℕ
+ends_by (New dst m args) = codes "and this call may change it:"
+ends_by (CtorCall m args own) = codes "and this call may change it:"
+ends_by (Call dst m receiver direct args) = codes "and this call may change it:"
+ends_by kind = codes "and this assignment may change it:"
+
+-- the same of a point that may be missing
+abbrev pub ended_words : Option Point → List ℕ
+ended_words None = codes "and this assignment may change it:"
+ended_words (Some pt) = ends_by pt.kind
 
 -- the span of what isn't there: nothing, at the beginning of the first file
 abbrev pub nowhere : Span

@@ -13,7 +13,7 @@ use jn_trees::Names;
 use std::alloc::{AllocError, Global};
 
 /// The text of a name; empty where there is no such name.
-fn text_at(names: &Names, name: NameNo) -> &str
+pub fn text_at(names: &Names, name: NameNo) -> &str
     ensures { result.now ≡ spec.text_at names.now name.0 }
 {
     if (name.0 as usize) < names.len() {
@@ -204,6 +204,46 @@ fn end_words(program: &Program, place: Place) -> &'static str
         Place::OfMethod(_) => "it is handed on by overriding at",
         Place::OfBody(_) => "`this` is under construction in the constructor at",
         Place::OfPoint(body, point) => read_words(program, body, point),
+    }
+}
+
+fn made_by(kind: &PointKind) -> &'static str
+    ensures { result.now ≡ spec.made_by kind.now }
+{
+    match kind {
+        PointKind::FieldWrite { .. } => "` was assigned at",
+        _ => "` was tested at",
+    }
+}
+
+/// How a point made a fact on a field: it is assigned there, or else tested.
+pub fn how_made(program: &Program, body: u32, point: u32) -> &'static str
+    ensures { result.now ≡ spec.how_made (point_at program.now body point) }
+{
+    match point_at(program, body, point) {
+        None => "` was tested at",
+        Some(info) => made_by(&info.kind),
+    }
+}
+
+fn ends_by(kind: &PointKind) -> &'static str
+    ensures { result.now ≡ spec.ends_by kind.now }
+{
+    match kind {
+        PointKind::New { .. } => "and this call may change it:",
+        PointKind::CtorCall { .. } => "and this call may change it:",
+        PointKind::Call { .. } => "and this call may change it:",
+        _ => "and this assignment may change it:",
+    }
+}
+
+/// What may end a fact on a field at a point: a call, or else an assignment.
+pub fn ended_words(program: &Program, body: u32, point: u32) -> &'static str
+    ensures { result.now ≡ spec.ended_words (point_at program.now body point) }
+{
+    match point_at(program, body, point) {
+        None => "and this assignment may change it:",
+        Some(info) => ends_by(&info.kind),
     }
 }
 

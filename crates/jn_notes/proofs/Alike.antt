@@ -19,8 +19,9 @@ use Rattle.jn_notes.specs.Asked.{item_of}
 use Rattle.jn_notes.specs.Noted.{headed, noted, AreBy, AreFrom, AreNotes, AreEach, AreLeastTables, AreNotesOf}
 use Rattle.jn_notes.specs.Spoken.{topics_of}
 use Rattle.jn_note_words.specs.Unkept.{preceded}
-use Rattle.jn_notes.specs.Voids.{AreVoids, key_of, read_in, void_notes}
-use Rattle.jn_notes.specs.declared.voids.ReadAt.{ReadAt}
+use Rattle.jn_note_words.specs.Leaving.{read_in}
+use Rattle.jn_notes.specs.Voids.{AreVoids, key_of, void_notes}
+use Rattle.jn_note_words.specs.declared.leaving.ReadAt.{ReadAt}
 
 module _ (P : Program) (names : List (List ℕ)) (s : List Qualifier)
     (tables_one : (b : ℕ) (t u : Table) → IsLeastTable P s b t → IsLeastTable P s b u → t ≡ u)

@@ -14,8 +14,8 @@ use Rattle.jn_reasons_law.specs.declared.item.Item.TheVariants.{AtSlot, AtRegist
 use Rattle.jn_reasons_law.specs.declared.item.Place.{Place}
 use Rattle.jn_reasons_law.specs.declared.item.Place.TheVariants.{OfSlot, OfMethod, OfBody, OfPoint}
 use Rattle.jn_reasons_law.specs.declared.item.Step.{Step}
-use Rattle.jn_notes.specs.declared.voids.ReadAt.{ReadAt}
-use Rattle.jn_notes.specs.Voids.{goes_on, read_at, read_by, read_from, read_in}
+use Rattle.jn_note_words.specs.declared.leaving.ReadAt.{ReadAt}
+use Rattle.jn_note_words.specs.Leaving.{goes_on, read_at, read_by, read_from, read_in}
 use Rattle.jn_notes.proofs.Standing.{split_or}
 
 never : (x : ReadAt) → None ≡ Some x → ⊥

@@ -13,10 +13,10 @@ use Rattle.jn_chain.specs.Search.{AreRests, Ground, IsKnownStep, IsPath}
 use Rattle.jn_chain.specs.Told.{told_of}
 use Rattle.jn_chain.proofs.Walks.{no_way, path_less, way_more}
 use Rattle.jn_notes.specs.declared.said.Said.{Said}
-use Rattle.jn_notes.specs.declared.voids.ReadAt.{ReadAt}
+use Rattle.jn_note_words.specs.declared.leaving.ReadAt.{ReadAt}
 use Rattle.jn_notes.specs.Noted.{most_shown}
 use Rattle.jn_notes.specs.Said.{AreSaid, IsSaid, said_of}
-use Rattle.jn_notes.specs.Voids.{goes_on, read_from, read_in}
+use Rattle.jn_note_words.specs.Leaving.{goes_on, read_from, read_in}
 use Rattle.jn_notes.proofs.Leaving.{read_inside}
 
 some_said : (a b : Said) → Some a ≡ Some b → a ≡ b

@@ -14,7 +14,8 @@ use Rattle.jn_notes.specs.declared.topics.Topic.{Topic}
 use Rattle.jn_notes.specs.Asked.{item_of}
 use Rattle.jn_notes.specs.Spoken.{topic_note, topics_of}
 use Rattle.jn_note_words.specs.Unkept.{preceded}
-use Rattle.jn_notes.specs.Voids.{AreVoids, read_in}
+use Rattle.jn_note_words.specs.Leaving.{read_in}
+use Rattle.jn_notes.specs.Voids.{AreVoids}
 use Rattle.jn_note_words.specs.Worded.{step_span, step_words}
 
 -- how many steps of a chain are shown at most, and how many declarations that a row speaks of

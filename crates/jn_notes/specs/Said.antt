@@ -7,7 +7,7 @@ use Rattle.jn_chain.specs.Search.{Ground, IsShortestWay}
 use Rattle.jn_chain.specs.Told.{told_of}
 use Rattle.jn_notes.specs.declared.said.Said.{Said}
 use Rattle.jn_notes.specs.Noted.{most_shown}
-use Rattle.jn_notes.specs.Voids.{read_in}
+use Rattle.jn_note_words.specs.Leaving.{read_in}
 
 -- of these steps
 abbrev pub said_of : Program → List Step → Said

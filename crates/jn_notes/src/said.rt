@@ -10,9 +10,9 @@ ghost use Rattle.jn_notes.specs.Walked.{ground_in};
 
 use crate::explain::MOST_SHOWN;
 use crate::solved::SolvedProgram;
-use crate::voids::{ReadAt, read_with};
 use jn_base::OutOfMemory;
 use jn_chain::{Chains, Kept, Told, find_left, nothing_told, told_with, walk_to};
+use jn_note_words::{ReadAt, read_with};
 use jn_points::Program;
 use jn_reasons_law::{Item, Step};
 use std::alloc::Global;

@@ -1,104 +1,23 @@
 //! The notes of a test or an assignment that something made void.
-ghost use Rattle.std.specs.Prelude.{◌≡◌, ◌<◌, [], length, IfOk, None, Some, cond, slice_index_or};
-ghost use Rattle.std.specs.Option.{option_or};
-ghost use Rattle.jn_points.specs.Lookup.{field_info, method_in, point_at, static_of};
+ghost use Rattle.std.specs.Prelude.{◌≡◌, ◌<◌, [], length, IfOk, None, Some, slice_index_or};
+ghost use Rattle.jn_points.specs.Lookup.{method_in, static_of};
 ghost use Rattle.jn_voided.specs.Voided.{IsFound};
-ghost use Rattle.jn_notes.specs.declared.voids.ReadAt.{ReadAt};
+ghost use Rattle.jn_note_words.specs.declared.leaving.ReadAt.{ReadAt};
 ghost use Rattle.jn_notes.specs.Voids as spec;
 ghost use Rattle.jn_note_words.specs.Worded.{point_span};
 
 use jn_base::lists::put;
 use jn_base::{BodyNo, FieldNo, OutOfMemory, PointNo, RegNo, Seq};
 use jn_env::FieldKey;
+use jn_note_words::leaving::ReadAt;
 use jn_note_words::note::Note;
-use jn_note_words::spans::{point_at, point_span};
-use jn_note_words::words::{add, field_name};
+use jn_note_words::spans::point_span;
+use jn_note_words::words::{add, ended_words, field_name, how_made};
+use jn_points::Program;
 use jn_points::lookup::method_in;
-use jn_points::{PointKind, Program};
-use jn_reasons_law::{Bit, Item, Place, Step};
 use jn_trees::Names;
 use jn_voided::{Voided, Voids, next_voided};
 use std::alloc::{AllocError, Global};
-
-/// A read of a field: the body, the point, the register of the object, and the field.
-#[derive(Clone, Copy, Debug, PartialEq, Eq)]
-pub struct ReadAt {
-    pub body: u32,
-    pub point: u32,
-    pub object: u32,
-    pub field: u32,
-}
-
-/// The read, where the point writes the register with a field.
-fn read_by(body: u32, point: u32, reg: u32, kind: &PointKind) -> Option<ReadAt>
-    ensures { result ≡ spec.read_by body point reg kind.now }
-{
-    match kind {
-        PointKind::FieldRead { dst, object, field } => {
-            if dst.0 == reg {
-                Some(ReadAt {
-                    body,
-                    point,
-                    object: object.reg.0,
-                    field: field.0,
-                })
-            } else {
-                None
-            }
-        }
-        _ => None,
-    }
-}
-
-fn read_at(program: &Program, body: u32, point: u32, reg: u32) -> Option<ReadAt>
-    ensures { result ≡ spec.read_at body point reg (point_at program.now body point) }
-{
-    match point_at(program, body, point) {
-        None => None,
-        Some(info) => read_by(body, point, reg, &info.kind),
-    }
-}
-
-/// The read by which a null in a register comes from a point.
-fn read_from(program: &Program, item: Item, place: Place) -> Option<ReadAt>
-    ensures { result ≡ spec.read_from program.now item place }
-{
-    match item {
-        Item::AtRegister(_, _, reg, Bit::Nullable) => match place {
-            Place::OfPoint(body, point) => read_at(program, body, point, reg),
-            _ => None,
-        },
-        _ => None,
-    }
-}
-
-/// Whether a null in a register comes from a point.
-fn goes_on(step: Step) -> bool
-    ensures { result ≡ spec.goes_on step }
-{
-    match step.item {
-        Item::AtRegister(_, _, _, Bit::Nullable) => match step.place {
-            Place::OfPoint(_, _) => true,
-            _ => false,
-        },
-        _ => false,
-    }
-}
-
-/// The first read of a field of a chain's steps, before they leave the registers, by its first step and that of the steps behind.
-pub(crate) fn read_with(program: &Program, step: Step, behind: Option<ReadAt>) -> Option<ReadAt>
-    ensures { result ≡ option_or (spec.read_from program.now step.item step.place)
-        (cond (spec.goes_on step) behind None) }
-{
-    let found = read_from(program, step.item, step.place);
-    if found.is_some() {
-        found
-    } else if goes_on(step) {
-        behind
-    } else {
-        None
-    }
-}
 
 /// Whether the object is the body's own.
 fn is_this(program: &Program, read: ReadAt) -> bool
@@ -126,25 +45,6 @@ fn front_words(program: &Program, read: ReadAt) -> &'static str
     }
 }
 
-fn made_by(kind: &PointKind) -> &'static str
-    ensures { result.now ≡ spec.made_by kind.now }
-{
-    match kind {
-        PointKind::FieldWrite { .. } => "` was assigned at",
-        _ => "` was tested at",
-    }
-}
-
-/// How a point made it known.
-fn how_made(program: &Program, body: u32, point: u32) -> &'static str
-    ensures { result.now ≡ spec.how_made (point_at program.now body point) }
-{
-    match point_at(program, body, point) {
-        None => "` was tested at",
-        Some(info) => made_by(&info.kind),
-    }
-}
-
 /// Where it was tested or assigned.
 fn made_words(
     alloc: Global,
@@ -160,27 +60,6 @@ fn made_words(
     add(&mut words, field_name(program, names, read.field))?;
     add(&mut words, how_made(program, read.body, made.0))?;
     Ok(words)
-}
-
-fn ends_by(kind: &PointKind) -> &'static str
-    ensures { result.now ≡ spec.ends_by kind.now }
-{
-    match kind {
-        PointKind::New { .. } => "and this call may change it:",
-        PointKind::CtorCall { .. } => "and this call may change it:",
-        PointKind::Call { .. } => "and this call may change it:",
-        _ => "and this assignment may change it:",
-    }
-}
-
-/// What may change it.
-fn ended_words(program: &Program, body: u32, point: u32) -> &'static str
-    ensures { result.now ≡ spec.ended_words (point_at program.now body point) }
-{
-    match point_at(program, body, point) {
-        None => "and this assignment may change it:",
-        Some(info) => ends_by(&info.kind),
-    }
 }
 
 fn made_note(

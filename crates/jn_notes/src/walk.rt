@@ -5,7 +5,7 @@ ghost use Rattle.jn_reasons_law.specs.declared.item.Step.{Step};
 ghost use Rattle.jn_chain.specs.Keys.{IsEnd, kept_of, rest_of};
 ghost use Rattle.jn_chain.specs.Search.{AreRests};
 ghost use Rattle.jn_notes.specs.declared.said.Said.{Said};
-ghost use Rattle.jn_notes.specs.declared.voids.ReadAt.{ReadAt};
+ghost use Rattle.jn_note_words.specs.declared.leaving.ReadAt.{ReadAt};
 ghost use Rattle.jn_notes.specs.Noted.{AreBy, AreFrom};
 ghost use Rattle.jn_notes.specs.Said.{AreSaid, said_of};
 ghost use Rattle.jn_notes.specs.Walked.{ground_in, scene_in};
