@@ -2,6 +2,7 @@
 mod case;
 
 use crate::annotated::case::{Case, case_of};
+use crate::around::{MOST, WIDE, failing, sink_of};
 use crate::beside::read_in;
 use jn_base::Text;
 use jn_outside::{MemFile, MemFiles, MemSink};
@@ -16,12 +17,6 @@ use std::thread::Threads;
 
 /// The folder of these tables.
 pub const FOLDER: &str = "annotated";
-
-/// The room of a sink that never fills.
-const WIDE: u32 = 1_000_000;
-
-/// The most bytes that one write takes.
-const MOST: u32 = 1000;
 
 /// The file that stands for one of this name: its name has no tab, quote or backslash.
 fn path_of(alloc: Global, name: &str) -> Result<String, AllocError> {
@@ -71,18 +66,6 @@ fn held_behind(
     Ok(held)
 }
 
-/// A sink whose writes of this number fails; 0 where none does.
-fn sink_of(alloc: Global, failing: u32) -> io::Result<MemSink> {
-    let mut calls = Vec::new(alloc);
-    if failing > 0 {
-        calls.push(failing)?;
-    }
-    match MemSink::new(alloc, calls, MOST, WIDE) {
-        Ok(sink) => Ok(sink),
-        Err(_) => Err(io::Error::from(AllocError)),
-    }
-}
-
 /// Prints what a sink took.
 fn print_written(rt: &HostRuntime, sink: &MemSink) -> io::Result<()> {
     let wrote = String::from_utf8_lossy(rt.alloc(), sink.bytes())?;
@@ -109,12 +92,8 @@ fn run_over<R: Threads + Sync>(
     held: Vec<MemFile>,
 ) -> io::Result<MemTargets> {
     let alloc = rt.alloc();
-    let mut failing = Vec::new(alloc);
-    if case.read > 0 {
-        failing.push(case.read)?;
-    }
-    let mut files = MemFiles::new(alloc, held, failing);
-    let mut sink = sink_of(alloc, case.write)?;
+    let mut files = MemFiles::new(alloc, held, failing(alloc, case.read)?);
+    let mut sink = sink_of(alloc, failing(alloc, case.write)?, MOST, WIDE)?;
     let special = texts(alloc, &case.special)?;
     let mut targets = MemTargets::over(alloc, case.replace.into(), special, Vec::new(alloc));
     let status = annotate_files(
@@ -144,7 +123,7 @@ fn print_report<R: Threads + Sync>(
     let mut reporters: Vec<Box<dyn Reporter>> = Vec::new(alloc);
     reporters.push(Box::new(alloc, Plain::new(alloc))?)?;
     let mut files = MemFiles::new(alloc, held, Vec::new(alloc));
-    let mut sink = sink_of(alloc, 0)?;
+    let mut sink = sink_of(alloc, Vec::new(alloc), MOST, WIDE)?;
     let _status = nullcheck(
         threads, alloc, names, reporters, &mut files, &mut sink, &Straight,
     );

@@ -1,6 +1,7 @@
 //! Checks or writes certificates by each line of a table, over the files beside it, and prints what is written, and a certificate in hexadecimal digits.
 mod case;
 
+use crate::around::{MOST, sink_of};
 use crate::beside::read_in;
 use crate::certificates::case::{Case, case_of};
 use jn_base::{Seq, Text};
@@ -9,7 +10,6 @@ use jn_sharing::Straight;
 use jn_targets::{MemTargets, Replaced};
 use nullcheck_cert_check::{Status, check};
 use nullcheck_cert_write::write_cert;
-use std::alloc::AllocError;
 use std::io;
 use std::thread::Threads;
 
@@ -33,16 +33,6 @@ fn held_files(rt: &HostRuntime, case: &mut Case) -> io::Result<Vec<MemFile>> {
         }
     }
     Ok(held)
-}
-
-/// The sink of a case.
-fn sink_of(rt: &HostRuntime, case: &Case) -> io::Result<MemSink> {
-    let alloc = rt.alloc();
-    let failing = Vec::from_slice(alloc, &case.writes)?;
-    match MemSink::new(alloc, failing, 1000, case.room) {
-        Ok(sink) => Ok(sink),
-        Err(_) => Err(io::Error::from(AllocError)),
-    }
 }
 
 /// What stands at names before a certificate is written: the case's own certificate, where it has one.
@@ -140,7 +130,12 @@ pub fn run<R: Threads + Sync>(rt: &HostRuntime, threads: &R, line: &str) -> io::
     let held = held_files(rt, &mut case)?;
     let failing = Vec::from_slice(alloc, &case.reads)?;
     let mut files = MemFiles::new(alloc, held, failing);
-    let mut sink = sink_of(rt, &case)?;
+    let mut sink = sink_of(
+        alloc,
+        Vec::from_slice(alloc, &case.writes)?,
+        MOST,
+        case.room,
+    )?;
     if has_write(&case.words) {
         run_write(rt, threads, &case, there, &mut files, &mut sink)
     } else {

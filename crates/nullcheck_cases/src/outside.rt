@@ -3,9 +3,6 @@
 //! CLASS METHOD OBJECT ARG..`, of a method that the class declares. What a call gives is kept as NAME. Each call is made by the machine and by
 //! trees, each over a heap of its own.
 
-use crate::caller::Caller;
-use crate::calls::{Called, Came, Way, make_call};
-use crate::entry::{Entry, call_on, construction, static_call};
 use crate::reading::reads_of;
 use jn_base::Infer;
 use jn_index::BaseTyped;
@@ -15,6 +12,9 @@ use jn_points::Program;
 use jn_program::sources::sources_of_files;
 use jn_sharing::{Straight, Workers};
 use jn_tree_run::calling::Run;
+use jn_tree_run::outside::caller::Caller;
+use jn_tree_run::outside::calls::{Called, Came, Way, make_call};
+use jn_tree_run::outside::entry::{Entry, call_on, construction, static_call};
 use jn_trees::{FileTree, Names};
 use std::alloc::{AllocError, Global};
 use std::io;

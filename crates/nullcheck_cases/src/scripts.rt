@@ -2,27 +2,22 @@
 mod case;
 mod counting;
 
+use crate::around::{MOST, WIDE, failing, sink_of};
 use crate::beside::read_in;
 use crate::scripts::case::{Case, case_of};
 use crate::scripts::counting::Counting;
 use jn_base::Infer;
-use jn_outside::{MemFile, MemFiles, MemSink};
+use jn_outside::{MemFile, MemFiles};
 use jn_recheck::Session;
 use jn_script::{Step, read_script};
 use jn_sharing::{Straight, Workers};
 use nullcheck_recheck_top::recheck;
-use std::alloc::{AllocError, Global};
+use std::alloc::AllocError;
 use std::io;
 use std::thread::Threads;
 
 /// The folder of these tables.
 pub const FOLDER: &str = "scripts";
-
-/// The room of a sink that never fills.
-const WIDE: u32 = 1_000_000;
-
-/// The most bytes that one write takes.
-const MOST: u32 = 1000;
 
 /// The steps of the script of this name; none of one that isn't there or is bad.
 fn steps_of(rt: &HostRuntime, name: &str) -> io::Result<Vec<Step>> {
@@ -58,23 +53,12 @@ fn held_files(rt: &HostRuntime, words: &[String]) -> io::Result<Vec<MemFile>> {
     Ok(held)
 }
 
-/// Calls of which the one of this number fails; 0 where none does.
-fn failing(alloc: Global, call: u32) -> Result<Vec<u32>, AllocError> {
-    let mut calls = Vec::new(alloc);
-    if call > 0 {
-        calls.push(call)?;
-    }
-    Ok(calls)
-}
-
 /// Takes the words, and prints what is written and the status.
 fn run_words<R: Threads + Sync>(rt: &HostRuntime, threads: &R, case: &Case) -> io::Result<()> {
     let alloc = rt.alloc();
     let held = held_files(rt, &case.words)?;
     let mut files = MemFiles::new(alloc, held, failing(alloc, case.read)?);
-    let Ok(mut sink) = MemSink::new(alloc, failing(alloc, case.write)?, MOST, WIDE) else {
-        return Err(io::Error::from(AllocError));
-    };
+    let mut sink = sink_of(alloc, failing(alloc, case.write)?, MOST, WIDE)?;
     let status = recheck(
         threads,
         &Straight,

@@ -2,11 +2,12 @@
 mod case;
 mod session;
 
+use crate::around::{MOST, WIDE, failing, sink_of};
 use crate::sessions::case::{Case, case_of};
 use crate::sessions::session::{Recorded, read_session};
 use jn_folder::MemFolder;
 use jn_lsp_frames::{End, Frame, FrameReader, MemStream, Next};
-use jn_outside::{MemFiles, MemSink};
+use jn_outside::MemFiles;
 use jn_sharing::Straight;
 use nullcheck_lsp_top::{Status, serve};
 use std::alloc::{AllocError, Global};
@@ -16,28 +17,11 @@ use std::thread::Threads;
 /// The folder of these tables.
 pub const FOLDER: &str = "sessions";
 
-/// The room of a sink that never fills.
-const WIDE: u32 = 1_000_000;
-
-/// The most bytes that one write takes.
-const MOST: u32 = 1000;
-
-/// Calls of which the one of this number fails; 0 where none does.
-fn failing(alloc: Global, call: u32) -> Result<Vec<u32>, AllocError> {
-    let mut calls = Vec::new(alloc);
-    if call > 0 {
-        calls.push(call)?;
-    }
-    Ok(calls)
-}
-
 /// Prints the bodies of the frames, each on a line, and where the bytes end in the middle of a frame.
 fn print_bodies(rt: &HostRuntime, bytes: Vec<u8>) -> io::Result<()> {
     let alloc = rt.alloc();
     let mut input = MemStream::new(bytes, WIDE, Vec::new(alloc));
-    let Ok(out) = MemSink::new(alloc, Vec::new(alloc), MOST, WIDE) else {
-        return Err(io::Error::from(AllocError));
-    };
+    let out = sink_of(alloc, Vec::new(alloc), MOST, WIDE)?;
     let mut reader = FrameReader::new(alloc);
     for _frame in 0..1000 {
         match reader.next(&mut input, &out, alloc) {
@@ -65,9 +49,7 @@ fn served<R: Threads + Sync>(
     let mut input = MemStream::new(session.sent, most, failing(alloc, case.input)?);
     let mut files = MemFiles::new(alloc, session.held, failing(alloc, case.read)?);
     let mut folder = MemFolder::new(session.folders, u64::from(case.list));
-    let Ok(mut sink) = MemSink::new(alloc, failing(alloc, case.write)?, MOST, WIDE) else {
-        return Err(AllocError);
-    };
+    let mut sink = sink_of(alloc, failing(alloc, case.write)?, MOST, WIDE)?;
     let status = serve(
         threads,
         &Straight,

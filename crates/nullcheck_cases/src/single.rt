@@ -2,6 +2,7 @@
 ghost use Rattle.std.specs.Prelude.{◌≤◌, length};
 ghost use Rattle.jn_running.specs.Going.{IsGoing};
 
+use crate::around::{MOST, ROOM, sink_of};
 use crate::reading::{file_names, reads_of};
 use jn_accept::Accepted;
 use jn_base::Text;
@@ -15,19 +16,6 @@ use nullcheck_top::check::check;
 use std::alloc::{AllocError, Global};
 use std::io;
 use std::thread::Threads;
-
-/// The bytes for which the sink of a run has room.
-const ROOM: u32 = 100_000;
-
-/// The most bytes that one write takes.
-const MOST: u32 = 1000;
-
-fn sink_of(alloc: Global) -> Result<MemSink, AllocError> {
-    match MemSink::new(alloc, Vec::new(alloc), MOST, ROOM) {
-        Ok(sink) => Ok(sink),
-        Err(_) => Err(AllocError),
-    }
-}
 
 /// Runs at most so many steps, one after the other; `Steps` says that the machine goes on after all of them.
 fn by_steps(machine: &mut Machine, steps: u64, sink: &mut MemSink) -> Ended
@@ -52,8 +40,8 @@ fn ends_so(
     let Some(main) = accepted.main() else {
         return Ok(false);
     };
-    let mut single = sink_of(alloc)?;
-    let mut whole = sink_of(alloc)?;
+    let mut single = sink_of(alloc, Vec::new(alloc), MOST, ROOM)?;
+    let mut whole = sink_of(alloc, Vec::new(alloc), MOST, ROOM)?;
     let Ok(mut machine) = Machine::start(alloc, accepted, names, main, words) else {
         return Err(AllocError);
     };

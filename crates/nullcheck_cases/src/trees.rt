@@ -8,6 +8,7 @@ ghost use Rattle.jn_places.specs.PlacedView.{placed_file};
 ghost use Rattle.jn_program.specs.Lowered.{IsProgram};
 ghost use Rattle.jn_tree_run.specs.Beginning.{HasTrees};
 
+use crate::around::{MOST, ROOM, sink_of};
 use crate::reading::{file_names, reads_of};
 use jn_accept::mains::only_main;
 use jn_base::{Span, place_of};
@@ -17,19 +18,12 @@ use jn_cli::{Command, read_words};
 use jn_front::{ParsedFiles, SourceRead, parse_files};
 use jn_index::BaseTyped;
 use jn_index::indexed::IndexedProgram;
-use jn_outside::MemSink;
 use jn_program::lowering::lower;
 use jn_sharing::{Straight, Workers};
 use jn_tree_run::{FaultKind, TreeEnd, tree_run};
 use std::alloc::{AllocError, Global};
 use std::io;
 use std::thread::Threads;
-
-/// The bytes for which the sink of a run has room.
-const ROOM: u32 = 100_000;
-
-/// The most bytes that one write takes.
-const MOST: u32 = 1000;
 
 /// Within what a main runs by its trees: so many frames at most, and so many units of fuel.
 #[derive(Clone, Copy)]
@@ -96,9 +90,7 @@ fn run_typed(
     let Some(main) = only_main(base.program()) else {
         return "no single main\n".to_string(alloc);
     };
-    let Ok(mut sink) = MemSink::new(alloc, Vec::new(alloc), MOST, ROOM) else {
-        return Err(AllocError);
-    };
+    let mut sink = sink_of(alloc, Vec::new(alloc), MOST, ROOM)?;
     let end = tree_run(
         alloc,
         base,

@@ -1,6 +1,7 @@
 //! A case is one line: the words of a command. Five words set what lies around it: `read=N` has the Nth call on the source fail,
 //! `write=N` the Nth write and `replace=N` the Nth file that is replaced, `special=NAME` has the name lead to what is no plain file, and
 //! `again` takes the words once more over the files as they are then, with their report before and after. `%` stands for a tab in a name.
+use crate::around::{number, text_after};
 use std::alloc::{AllocError, Global};
 
 #[derive(Drop)]
@@ -19,25 +20,9 @@ pub struct Case {
     pub again: bool,
 }
 
-/// The number after the name, where the word is of that form.
-fn number(word: &str, name: &str) -> Option<u32> {
-    match word.split_once('=') {
-        Some((front, digits)) if front == name => digits.parse().ok(),
-        _ => None,
-    }
-}
-
 /// Whether the word says what is done with the files.
 fn is_mode(word: &str) -> bool {
     word == "--imports" || word == "--terse" || word == "--write" || word == "--check"
-}
-
-/// The name that leads to what is no plain file, where the word sets one.
-fn special_name(word: &str) -> Option<&str> {
-    match word.split_once('=') {
-        Some((front, name)) if front == "special" => Some(name),
-        _ => None,
-    }
 }
 
 /// Whether the word sets what lies around the command, which is put into the case then.
@@ -61,7 +46,7 @@ fn take(alloc: Global, case: &mut Case, word: &str) -> Result<(), AllocError> {
     if take_setting(case, word) {
         return Ok(());
     }
-    if let Some(name) = special_name(word) {
+    if let Some(name) = text_after(word, "special") {
         case.special.push(String::from_str(alloc, name)?)?;
         return Ok(());
     }

@@ -3,14 +3,12 @@
 //! its first N bytes and `more=N` puts N zero bytes after them; `read=N` has the Nth call on the source fail, `write=N` the Nth
 //! write, `store=N` the Nth file that is put in place, and `room=N` gives the sink room for N bytes. `special=NAME` says that the name
 //! leads to no plain file. `times=N` takes the last word N times.
+use crate::around::{ROOM, number, text_after};
 use crate::beside::read_text_in;
 use crate::certificates::FOLDER;
 use jn_base::Text;
 use std::alloc::{AllocError, Global};
 use std::io;
-
-/// The room of a sink that never fills.
-const WIDE: u32 = 100_000;
 
 /// The most that a number of a case counts.
 const LARGEST: u32 = 70_000_000;
@@ -30,22 +28,6 @@ pub struct Case {
     /// Names that lead to no plain file.
     pub special: Vec<Text>,
     pub room: u32,
-}
-
-/// The number after the name, where the word is of that form.
-fn number(word: &str, name: &str) -> Option<u32> {
-    match word.split_once('=') {
-        Some((front, digits)) if front == name => digits.parse().ok(),
-        _ => None,
-    }
-}
-
-/// The text after the name, where the word is of that form.
-fn text<'a>(word: &'a str, name: &str) -> Option<&'a str> {
-    match word.split_once('=') {
-        Some((front, rest)) if front == name => Some(rest),
-        _ => None,
-    }
 }
 
 /// The bytes that a text writes, two digits each, without what stands after a `#` in its line.
@@ -81,7 +63,7 @@ fn take_change(case: &mut Case, word: &str) -> Result<bool, AllocError> {
     let Some(bytes) = &mut case.cert else {
         return Ok(false);
     };
-    if let Some(change) = text(word, "set") {
+    if let Some(change) = text_after(word, "set") {
         set(bytes, change);
     } else if let Some(count) = number(word, "cut") {
         bytes.truncate(count as usize);
@@ -105,7 +87,7 @@ fn take_failure(alloc: Global, case: &mut Case, word: &str) -> Result<bool, Allo
         case.store = call;
     } else if let Some(room) = number(word, "room") {
         case.room = room;
-    } else if let Some(name) = text(word, "special") {
+    } else if let Some(name) = text_after(word, "special") {
         case.special.push(Text::of_str(alloc, name)?)?;
     } else {
         return Ok(false);
@@ -115,7 +97,7 @@ fn take_failure(alloc: Global, case: &mut Case, word: &str) -> Result<bool, Allo
 
 /// Whether the word gives the certificate, which is put into the case then.
 fn take_cert(rt: &HostRuntime, case: &mut Case, word: &str) -> io::Result<bool> {
-    if let Some(name) = text(word, "hex") {
+    if let Some(name) = text_after(word, "hex") {
         let digits = read_text_in(rt, FOLDER, name)?;
         case.cert = Some(bytes_of(rt, digits.as_str())?);
     } else if let Some(count) = number(word, "zeros") {
@@ -145,7 +127,7 @@ pub fn case_of(rt: &HostRuntime, line: &str) -> io::Result<Case> {
         writes: Vec::new(alloc),
         store: 0,
         special: Vec::new(alloc),
-        room: WIDE,
+        room: ROOM,
     };
     for word in line.split_whitespace() {
         if take_cert(rt, &mut case, word)?

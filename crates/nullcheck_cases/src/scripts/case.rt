@@ -1,6 +1,7 @@
 //! A case is one line: the words of a command. Three words set what lies around it: `read=N` has the Nth call on the source fail, `write=N`
 //! the Nth write, and `anew` carries out the script by a session alone, and prints at each check how often a body's rows
 //! were made anew, and at all but the first how often a worker took a file, or a body where all are solved anew.
+use crate::around::number;
 use std::alloc::{AllocError, Global};
 
 #[derive(Drop)]
@@ -11,14 +12,6 @@ pub struct Case {
     /// The write that fails, from 1; 0 where none does.
     pub write: u32,
     pub anew: bool,
-}
-
-/// The number after the name, where the word is of that form.
-fn number(word: &str, name: &str) -> Option<u32> {
-    match word.split_once('=') {
-        Some((front, digits)) if front == name => digits.parse().ok(),
-        _ => None,
-    }
 }
 
 /// Takes the word into the case.

@@ -1,6 +1,7 @@
 //! A case is one line: the name of a recorded session. Five words set what lies around it: `in=N`, `read=N`, `list=N` and `write=N` have the
 //! Nth call on the input, the files, the folders and the output fail, and `most=N` lets one read of the input give at most N bytes. `word=W`
 //! is a word of the command line; several stand there in their order.
+use crate::around::number;
 use std::alloc::{AllocError, Global};
 
 /// The most bytes that one read gives where nothing is set.
@@ -21,14 +22,6 @@ pub struct Case {
     pub write: u32,
     /// The most bytes that one read of the input gives.
     pub most: u32,
-}
-
-/// The number after the name, where the word is of that form.
-fn number(word: &str, name: &str) -> Option<u32> {
-    match word.split_once('=') {
-        Some((front, digits)) if front == name => digits.parse().ok(),
-        _ => None,
-    }
 }
 
 /// Takes the word into the case.

@@ -1,5 +1,5 @@
 //! The body that a call from outside enters, and with which values (JLS 15.9 and 15.12).
-use crate::caller::Caller;
+use crate::outside::caller::Caller;
 use jn_base::{ClassNo, MethodNo, NameNo};
 use jn_machine::{Thing, Value};
 use jn_points::Program;

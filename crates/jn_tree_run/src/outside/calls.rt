@@ -1,10 +1,9 @@
 //! One call from outside, by the machine or by trees: what it prints and comes to.
-
-use crate::caller::Caller;
-use crate::entry::Entry;
+use crate::calling::{Run, enter};
+use crate::outside::caller::Caller;
+use crate::outside::entry::Entry;
 use jn_machine::{End, Frame, MachineState, Stepped, Value, body_of, point_at, run};
 use jn_points::{PointKind, Program};
-use jn_tree_run::calling::{Run, enter};
 use jn_tree_world::frames::padded;
 use jn_tree_world::{Halt, World};
 use std::alloc::AllocError;
