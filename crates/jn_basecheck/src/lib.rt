@@ -9,6 +9,7 @@ mod operands;
 mod points;
 mod results;
 mod sharing;
-mod types;
+pub mod types;
 
 pub use check::{base_check, base_check_others};
+pub use types::Want;

@@ -82,7 +82,7 @@ fn is_value_within(program: &IndexedProgram, base: BaseType, wanted: BaseType) -
 }
 
 /// Whether a type is what is wanted; no value of type void is.
-fn suits(program: &IndexedProgram, want: Want, base: BaseType) -> bool
+pub fn suits(program: &IndexedProgram, want: Want, base: BaseType) -> bool
     ensures { result ≡ rules.suits program.now (meant want) base }
 {
     match want {
@@ -97,8 +97,8 @@ fn suits(program: &IndexedProgram, want: Want, base: BaseType) -> bool
     }
 }
 
-/// Whether only element nullity differs.
-fn suits_otherwise(program: &IndexedProgram, want: Want, base: BaseType) -> bool
+/// Whether a type isn't what is wanted, and the one that differs in element nullity alone is.
+pub fn suits_otherwise(program: &IndexedProgram, want: Want, base: BaseType) -> bool
     ensures { result ≡ rules.suits_otherwise program.now (meant want) base }
 {
     !suits(program, want, base) && suits(program, want, other_nullity(base))

@@ -30,6 +30,7 @@ use jn_heads::extract::heads;
 use jn_heads::head::ClassHead;
 use jn_index::index::Index;
 use jn_index::indexed::IndexedProgram;
+use jn_note_words::words::text_at;
 use jn_note_words::{Note, Notes};
 use jn_notes::reads::same_span;
 use jn_points::Program;
@@ -141,17 +142,6 @@ fn words_behind(code: Code) -> &'static str
         Code::T4 => "` with as many parameters is first declared at",
         Code::T6 => "` has no body, as declared at",
         _ => "`, as declared at",
-    }
-}
-
-/// The text of a name; empty where there is no such name.
-pub(crate) fn text_at(names: &Names, name: NameNo) -> &str
-    ensures { result.now ≡ text_at names.now name.0 }
-{
-    if (name.0 as usize) < names.len() {
-        names.text(name)
-    } else {
-        ""
     }
 }
 

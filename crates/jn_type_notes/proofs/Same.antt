@@ -18,9 +18,10 @@ use Rattle.jn_points.specs.Lookup.{elem_base, class_of, params_of, result_base_o
 use Rattle.jn_points.specs.BaseRows as rules
 use Rattle.jn_points.specs.BaseRows.{all_rows, argument_rows, binary_rows, is_void, operand_rows, optional_rows, string_base, suits, suits_otherwise, type_rows}
 use Rattle.jn_type_notes.specs.declared.mismatch.Mismatch.{Mismatch}
-use Rattle.jn_type_notes.specs.declared.mismatch.Want.{Want}
-use Rattle.jn_type_notes.specs.declared.mismatch.Want.TheVariants.{Within, Primitive, Same as SameAs, Reference, Elements, Joinable, Printable, Valued}
-use Rattle.jn_type_notes.specs.Mismatched.{all_found, arguments_found, binary_found, is_type_row, kind_found, meant, operand_found, optional_found, returned, row_of}
+use Rattle.jn_basecheck.specs.declared.types.Want.{Want}
+use Rattle.jn_basecheck.specs.declared.types.Want.TheVariants.{Within, Primitive, Same as SameAs, Reference, Elements, Joinable, Printable, Valued}
+use Rattle.jn_basecheck.specs.Wanted.{meant}
+use Rattle.jn_type_notes.specs.Mismatched.{all_found, arguments_found, binary_found, is_type_row, kind_found, operand_found, optional_found, returned, row_of}
 
 abbrev pub Same : List Row → List Mismatch → Type 0
 Same rows ms = filter is_type_row rows ≡ map row_of ms

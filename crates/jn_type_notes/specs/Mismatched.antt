@@ -14,22 +14,11 @@ use Rattle.jn_points.specs.declared.point.PointKind.TheVariants.{Move, Unary, Bi
 use Rattle.jn_points.specs.declared.program.Body.{Body}
 use Rattle.jn_points.specs.declared.program.Program.{Program}
 use Rattle.jn_points.specs.Lookup.{elem_base, class_of, params_of, result_base_of, reg_base, field_base, owner, method_at, method_in}
-use Rattle.jn_points.specs.BaseRows as rules
 use Rattle.jn_points.specs.BaseRows.{is_void, string_base, suits, suits_otherwise}
+use Rattle.jn_basecheck.specs.Wanted.{meant}
 use Rattle.jn_type_notes.specs.declared.mismatch.Mismatch.{Mismatch}
-use Rattle.jn_type_notes.specs.declared.mismatch.Want.{Want}
-use Rattle.jn_type_notes.specs.declared.mismatch.Want.TheVariants.{Within, Primitive, Same, Reference, Elements, Joinable, Printable, Valued}
-
--- what is wanted, as the rules say it
-abbrev pub meant : Want → rules.Want
-meant (Within base) = rules.Within base
-meant Primitive = rules.Primitive
-meant (Same base) = rules.Same base
-meant Reference = rules.Reference
-meant Elements = rules.Elements
-meant Joinable = rules.Joinable
-meant Printable = rules.Printable
-meant Valued = rules.Valued
+use Rattle.jn_basecheck.specs.declared.types.Want.{Want}
+use Rattle.jn_basecheck.specs.declared.types.Want.TheVariants.{Within, Primitive, Same, Reference, Elements, Joinable, Printable, Valued}
 
 -- a row J7
 abbrev pub is_of_types : Code → Bool

@@ -16,8 +16,8 @@ use Rattle.jn_program_law.specs.FileProgram.{j_rows, program_of_files}
 use Rattle.jn_note_words.specs.declared.note.Note.{Note}
 use Rattle.jn_note_words.specs.Worded.{text_at}
 use Rattle.jn_type_notes.specs.declared.mismatch.Mismatch.{Mismatch}
-use Rattle.jn_type_notes.specs.declared.mismatch.Want.{Want}
-use Rattle.jn_type_notes.specs.declared.mismatch.Want.TheVariants.{Within, Primitive, Same, Reference, Elements, Joinable, Printable, Valued}
+use Rattle.jn_basecheck.specs.declared.types.Want.{Want}
+use Rattle.jn_basecheck.specs.declared.types.Want.TheVariants.{Within, Primitive, Same, Reference, Elements, Joinable, Printable, Valued}
 use Rattle.jn_type_notes.specs.Mismatched.{program_found}
 
 -- a class's name, empty where there is no such class

@@ -5,7 +5,6 @@
 #![tactic(auto)]
 
 pub mod files;
-mod fitting;
 pub mod law;
 pub mod mismatch;
 mod points;

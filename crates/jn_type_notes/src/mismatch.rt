@@ -2,33 +2,12 @@
 ghost use Rattle.std.specs.Prelude.{◌≡◌, ◌++◌, OnOk};
 ghost use Rattle.jn_type_notes.specs.Mismatched as spec;
 
-use crate::fitting::fits_or_otherwise;
 use jn_base::{Seq, Span};
+use jn_basecheck::types::{Want, suits, suits_otherwise};
 use jn_index::indexed::IndexedProgram;
 use jn_points::lookup::reg_base;
 use jn_points::{BaseType, Operand};
 use std::alloc::AllocError;
-
-/// What a point wants of an operand.
-#[derive(Clone, Copy)]
-pub enum Want {
-    /// A type within the given one.
-    Within(BaseType),
-    /// An int or a boolean.
-    Primitive,
-    /// The type of the other side of `==` or `!=`, which is int or boolean.
-    Same(BaseType),
-    /// Any reference.
-    Reference,
-    /// An array.
-    Elements,
-    /// What can be joined to a text: a primitive, a String or null.
-    Joinable,
-    /// What can be printed: a primitive or a String.
-    Printable,
-    /// Any value.
-    Valued,
-}
 
 /// An operand whose type doesn't fit: where it stands, its type, and what is wanted there.
 #[derive(Clone, Copy)]
@@ -36,6 +15,13 @@ pub struct Mismatch {
     pub span: Span,
     pub found: BaseType,
     pub want: Want,
+}
+
+/// Whether the type fits, or all of it but element nullity does.
+fn fits_or_otherwise(program: &IndexedProgram, want: Want, base: BaseType) -> bool
+    ensures { result ≡ spec.fits_or_otherwise program.now want base }
+{
+    suits(program, want, base) || suits_otherwise(program, want, base)
 }
 
 /// Puts an operand of the body of this number, where its type doesn't fit.

@@ -3,8 +3,9 @@ ghost use Rattle.std.specs.Prelude.{◌≡◌, ◌<◌, ◌^◌, ◌++◌, drop,
 ghost use Rattle.jn_points.specs.Lookup as looked;
 ghost use Rattle.jn_type_notes.specs.Mismatched as spec;
 
-use crate::mismatch::{Mismatch, Want, all, arguments, operand, optional};
+use crate::mismatch::{Mismatch, all, arguments, operand, optional};
 use jn_base::{ClassNo, FieldNo, MethodNo, Seq};
+use jn_basecheck::Want;
 use jn_index::indexed::IndexedProgram;
 use jn_points::lookup::{
     class_of, elem_base, field_base, is_void, method_in, owner, params_of, reg_base,

@@ -1,28 +1,18 @@
 //! What is said of an operand whose type doesn't fit.
 ghost use Rattle.std.specs.Prelude.{◌≡◌, ◌++◌, codes, map, IfOk, OnOk};
-ghost use Rattle.jn_note_words.specs.Worded.{text_at};
 ghost use Rattle.jn_points.specs.Lookup.{class_info};
 ghost use Rattle.jn_type_notes.specs.Wording as spec;
 
-use crate::mismatch::{Mismatch, Want};
+use crate::mismatch::Mismatch;
 use jn_base::lists::put;
-use jn_base::{ClassNo, NameNo, Seq};
+use jn_base::{ClassNo, Seq};
+use jn_basecheck::Want;
 use jn_note_words::Note;
+use jn_note_words::words::text_at;
 use jn_points::lookup::class_info;
 use jn_points::{BaseType, Elem, Program};
 use jn_trees::Names;
 use std::alloc::{AllocError, Global};
-
-/// The text of a name; empty where there is no such name.
-fn text_at(names: &Names, name: NameNo) -> &str
-    ensures { result.now ≡ text_at names.now name.0 }
-{
-    if (name.0 as usize) < names.len() {
-        names.text(name)
-    } else {
-        ""
-    }
-}
 
 fn class_words<'a>(names: &'a Names, program: &Program, class: ClassNo) -> &'a str
     ensures { result.now
