@@ -54,7 +54,10 @@ fn parameter(tree: &Parameter, reg: RegNo, base: BaseType) -> Declared
 }
 
 /// The parameters with registers from the first one on; of two of one name the first one counts.
-fn parameters(
+///
+/// # Errors
+/// No memory was found, or a register's number doesn't fit.
+pub fn parameters(
     alloc: Global,
     first: usize,
     trees: &[Parameter],
@@ -73,7 +76,8 @@ fn parameters(
     Ok(names)
 }
 
-fn first_parameter(program: &IndexedProgram, method: MethodNo) -> usize
+/// The first parameter's register: `this` has the first one of a method that isn't static.
+pub fn first_parameter(program: &IndexedProgram, method: MethodNo) -> usize
     ensures { result ≡ spec.first_parameter program.now method.0 }
 {
     if is_static(program, method) { 0 } else { 1 }

@@ -1,10 +1,12 @@
 //! The names in scope (JLS 6.3).
 ghost use Rattle.std.specs.Prelude.{◌≡◌, ◌-◌, ◌++◌, ◌∷◌, [], IfOk, OnErr, OnOk, drop, length};
 ghost use Rattle.jn_lower_stmt.specs.Views.{declared_local, rows_of};
+ghost use Rattle.jn_scopes.specs.Views.{scope_in};
 
-use jn_base::{NameNo, OutOfMemory, RegNo, Row};
+use jn_base::{ClassNo, NameNo, OutOfMemory, RegNo, Row};
+use jn_index::indexed::IndexedProgram;
 use jn_points::BaseType;
-use jn_scopes::{Bound, Faults, Variable, Variables};
+use jn_scopes::{Bound, Context, Faults, Variable, Variables};
 use std::alloc::Global;
 use std::marker::Model;
 
@@ -23,8 +25,8 @@ pub struct Declared {
 /// The names in scope with the last declared one last, and the rows of all declared types so far.
 #[derive(Drop)]
 pub struct Names {
-    pub(crate) variables: Variables,
-    pub(crate) rows: Vec<Row>,
+    variables: Variables,
+    rows: Vec<Row>,
 }
 
 impl Model for Names {
@@ -112,6 +114,29 @@ impl Names {
         ensures { self.new ≡ drop (length self.old - names) self.old }
     {
         self.variables.truncate(names);
+    }
+
+    /// Where an expression of a class with these names in scope stands; its temporaries have registers from the first one on.
+    pub fn context<'a>(
+        &'a self,
+        program: &'a IndexedProgram,
+        class: ClassNo,
+        first: u32,
+        alloc: Global,
+    ) -> Context<'a>
+        ensures program { result.program.now ≡ program.now }
+        ensures scope { scope_in result ≡ self.now }
+        ensures class { result.class ≡ class }
+        ensures first { result.first ≡ first }
+    {
+        Context {
+            program,
+            scope: &self.variables,
+            faults: &self.rows,
+            class,
+            first,
+            alloc,
+        }
     }
 
     /// Brings the name into scope.

@@ -247,14 +247,7 @@ impl BodyContext<'_> {
         ensures class { result.class ≡ self.now.class }
         ensures first { result.first ≡ self.now.first }
     {
-        Context {
-            program: self.program,
-            scope: &names.variables,
-            faults: &names.rows,
-            class: self.class,
-            first: self.first,
-            alloc: self.alloc,
-        }
+        names.context(self.program, self.class, self.first, self.alloc)
     }
 
     /// Where an expression with no local in scope stands.

@@ -1,6 +1,5 @@
 -- With what a constructor begins, and what entering a body is.
-use Rattle.std.proofs.Common.{◌≡◌, ◌<◌, ◌≤◌, ◌+◌, ℕ, suc, List, [], ◌∷◌, length, drop, get_or, true, false, ltb, Vec, Global, Ok, Err, refl, sym, ap, arith, lt-ltb}
-use Rattle.std.specs.Prelude.{Result as Answer, OnOk, is_err}
+use Rattle.std.proofs.Common.{◌≡◌, ◌<◌, ◌≤◌, ◌+◌, ℕ, suc, List, [], ◌∷◌, length, drop, get_or, true, false, ltb, Vec, Global, refl, sym, ap, arith, lt-ltb}
 use Rattle.jn_trees.specs.declared.expression.Expr.{Expr}
 use Rattle.jn_trees.specs.declared.statement.Stmt.{Stmt, ThisCall, SuperCall}
 use Rattle.jn_base.specs.declared.place.Span.{Span}
@@ -16,11 +15,6 @@ use Rattle.jn_tree_world.proofs.Binding.{spent_first}
 use Rattle.jn_tree_world.specs.Outcomes.{spends}
 use Rattle.jn_tree_run.specs.Beginning.{entered_in, framed_in}
 use Rattle.jn_tree_run.specs.declared.calling.Run.{Run}
-
--- what holds of an answer that isn't an error
-pub on_ok : {A E : Type 0} (P : Type 0) (r : Answer A E) → is_err r ≡ false → OnOk r P → P
-on_ok P (Ok x) e h = h
-on_ok P (Err x) e h = absurd (cc)
 
 pub stated_none : (xs : List Stmt) → length xs ≤ 0 → placed_statements xs ≡ NoPlacedStatements
 stated_none [] le = refl

@@ -7,9 +7,7 @@
 pub mod each;
 pub mod flow;
 pub mod pieces;
-pub mod scope;
 pub mod standing;
 
 pub use flow::Flow;
-pub use scope::Scope;
 pub use standing::{Site, Standing};

@@ -9,10 +9,9 @@ ghost use Rattle.jn_scopes.specs.Views.{bound_of, scope_in};
 ghost use Rattle.jn_tree_world.specs.Outcomes.{Found};
 ghost use Rattle.jn_tree_simple.specs.Standings.{back_to, standing_of};
 
-use crate::scope::Scope;
 use jn_base::{ClassNo, NameNo, RegNo};
 use jn_index::indexed::IndexedProgram;
-use jn_lower_stmt::names::Declared;
+use jn_lower_stmt::names::{Declared, Names};
 use jn_lower_stmt::registers::all_declared;
 use jn_lower_stmt::state::LocalKind;
 use jn_scopes::{Context, Variables, lookup};
@@ -32,7 +31,7 @@ pub struct Site<'a> {
 /// The names in scope, and the number of the next local.
 #[derive(Drop)]
 pub struct Standing {
-    pub scope: Scope,
+    pub scope: Names,
     pub count: usize,
 }
 
@@ -45,19 +44,12 @@ pub struct Mark {
 
 impl Site<'_> {
     /// Where an expression with these names in scope stands.
-    pub fn context<'a>(&'a self, scope: &'a Scope) -> Context<'a>
+    pub fn context<'a>(&'a self, scope: &'a Names) -> Context<'a>
         ensures program { result.program.now ≡ self.now.program.now }
         ensures scope { scope_in result ≡ scope.now }
         ensures class { result.class ≡ self.now.class }
     {
-        Context {
-            program: self.program,
-            scope: &scope.variables,
-            faults: &scope.rows,
-            class: self.class,
-            first: 0,
-            alloc: self.alloc,
-        }
+        scope.context(self.program, self.class, 0, self.alloc)
     }
 
     /// Where an expression with no local in scope stands.
@@ -78,7 +70,7 @@ impl Site<'_> {
     }
 
     /// Whether one of the names is this one.
-    fn has_local(&self, scope: &Scope, name: NameNo) -> bool
+    fn has_local(&self, scope: &Names, name: NameNo) -> bool
         ensures { result ≡ is_some (local_in scope.now name.0) }
     {
         lookup::local_in(&self.context(scope), name).is_some()
