@@ -61,7 +61,8 @@ pub const INITIALIZATION_ALONE: Allowed = Allowed {
     monotonic: false,
 };
 
-fn is_kind(kind: Kind, name: NameNo) -> bool
+/// Whether an annotation of this name is of the kind.
+pub fn is_kind(kind: Kind, name: NameNo) -> bool
     ensures { result ≡ kind_of kind name.0 }
 {
     match kind {
@@ -78,7 +79,8 @@ fn is_kind(kind: Kind, name: NameNo) -> bool
     }
 }
 
-fn is_allowed(allowed: Allowed, reference: bool, name: NameNo) -> bool
+/// Whether an annotation of this name may stand where these are allowed, at a reference or a primitive.
+pub fn is_allowed(allowed: Allowed, reference: bool, name: NameNo) -> bool
     ensures { result ≡ spec.is_allowed (allowed_of allowed) reference name.0 }
 {
     reference

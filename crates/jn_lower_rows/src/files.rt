@@ -104,7 +104,8 @@ fn is_static_start(type_use: &TypeUse, first: &Declarator, more: &[Declarator]) 
         && all_start(type_use.base, more)
 }
 
-fn has_static(modifiers: &[Modifier]) -> bool
+/// Whether `static` is among the modifiers.
+pub fn has_static(modifiers: &[Modifier]) -> bool
     ensures { result ≡ spec.has_static modifiers.now }
 {
     for modifier in modifiers {
@@ -232,7 +233,7 @@ fn base_span(base: Base) -> Span
 }
 
 /// The first token of a field's declaration, where an annotation counts as one.
-fn first_mark(modifiers: &[Modifier], type_use: &TypeUse) -> Span
+pub fn first_mark(modifiers: &[Modifier], type_use: &TypeUse) -> Span
     ensures { result ≡ spec.first_mark modifiers.now (placed_type_use type_use.now) }
 {
     match modifiers {

@@ -1,58 +1,27 @@
 //! Annotations that aren't of the subset where they stand.
 ghost use Rattle.std.specs.Prelude.{◌≡◌, ◌++◌, cond, find, flat_map, OnOk};
-ghost use Rattle.jn_lowering.specs.Annotations as annotated;
 ghost use Rattle.jn_lower_rows.specs.Views.{allowed_of, kind_of};
 ghost use Rattle.jn_places.specs.PlacedView.{placed_type_use};
 ghost use Rattle.jn_refused_notes.specs.Marked as spec;
 
 use crate::causes::{Cause, Refusal, refuse};
 use jn_base::{NameNo, Seq};
-use jn_known::{
-    INITIALIZED, MONOTONIC_NON_NULL, NON_NULL, NULLABLE, UNDER_INITIALIZATION,
-    UNKNOWN_INITIALIZATION,
-};
-use jn_lower_rows::annotations::{Allowed, Kind, NULLITY_ALONE};
+use jn_lower_rows::annotations::{Allowed, Kind, NULLITY_ALONE, is_allowed, is_kind};
 use jn_scopes::types::is_class_use;
 use jn_trees::{Annotation, TypeUse};
 use std::alloc::AllocError;
-
-fn is_of_kind(kind: Kind, name: NameNo) -> bool
-    ensures { result ≡ kind_of kind name.0 }
-{
-    match kind {
-        Kind::Nullity => name.0 == NON_NULL.0 || name.0 == NULLABLE.0,
-        Kind::Initialization => {
-            name.0 == INITIALIZED.0
-                || name.0 == UNDER_INITIALIZATION.0
-                || name.0 == UNKNOWN_INITIALIZATION.0
-        }
-        Kind::Monotonic => name.0 == MONOTONIC_NON_NULL.0,
-        Kind::AnyNullity => {
-            name.0 == NON_NULL.0 || name.0 == NULLABLE.0 || name.0 == MONOTONIC_NON_NULL.0
-        }
-    }
-}
-
-fn is_taken(allowed: Allowed, reference: bool, name: NameNo) -> bool
-    ensures { result ≡ annotated.is_allowed (allowed_of allowed) reference name.0 }
-{
-    reference
-        && ((is_of_kind(Kind::Nullity, name) && allowed.nullity)
-            || (is_of_kind(Kind::Initialization, name) && allowed.initialization)
-            || (is_of_kind(Kind::Monotonic, name) && allowed.monotonic))
-}
 
 /// Why an annotation that isn't taken has no meaning where it stands.
 fn misplaced(reference: bool, name: NameNo) -> Cause
     ensures { result ≡ spec.misplaced reference name.0 }
 {
-    if !(is_of_kind(Kind::AnyNullity, name) || is_of_kind(Kind::Initialization, name)) {
+    if !(is_kind(Kind::AnyNullity, name) || is_kind(Kind::Initialization, name)) {
         Cause::OtherAnnotation
     } else if !reference {
         Cause::OnPrimitive
-    } else if is_of_kind(Kind::Initialization, name) {
+    } else if is_kind(Kind::Initialization, name) {
         Cause::OfInitialization
-    } else if is_of_kind(Kind::Monotonic, name) {
+    } else if is_kind(Kind::Monotonic, name) {
         Cause::OfField
     } else {
         Cause::OfNullness
@@ -70,7 +39,7 @@ fn one(
         ≡ found.old
         ++ spec.refused_annotation (allowed_of allowed) reference annotation) }
 {
-    if is_taken(allowed, reference, annotation.name) {
+    if is_allowed(allowed, reference, annotation.name) {
         Ok(())
     } else {
         refuse(
@@ -102,7 +71,7 @@ fn first_of_kind(kind: Kind, annotations: &[Annotation]) -> Option<Annotation>
     ensures { result ≡ find (spec.is_named (kind_of kind)) annotations.now }
 {
     for annotation in annotations {
-        if is_of_kind(kind, annotation.name) {
+        if is_kind(kind, annotation.name) {
             return Some(*annotation);
         }
     }
@@ -138,7 +107,7 @@ fn doubles(
 {
     let mut left = annotations;
     while let [first, rest @ ..] = left {
-        if is_of_kind(kind, first.name) {
+        if is_kind(kind, first.name) {
             return first_of_two(*first, first_of_kind(kind, rest), found);
         }
         left = rest;

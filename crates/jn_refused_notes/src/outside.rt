@@ -11,12 +11,13 @@ use crate::bodies::{body, declarator, declarators, declared_type, statements};
 use crate::causes::{Cause, Refusal, refuse};
 use crate::forms::declared_name;
 use crate::marks::{annotations, type_use};
-use jn_base::{Seq, Span};
+use jn_base::Seq;
 use jn_lower_rows::annotations::{BOTH_KINDS, INITIALIZATION_ALONE, OF_FIELD};
+use jn_lower_rows::files::{first_mark, has_static};
 use jn_lower_rows::notes::{notes, notes_but_override};
 use jn_trees::{
-    Base, FileTree, Import, Member, Modifier, PackageLine, Parameter, QualifiedName, Receiver,
-    ResultUse, TypeTree, TypeUse,
+    FileTree, Import, Member, Modifier, PackageLine, Parameter, QualifiedName, Receiver, ResultUse,
+    TypeTree, TypeUse,
 };
 use std::alloc::{AllocError, Global};
 
@@ -98,51 +99,6 @@ fn field_type(
     type_use(written, OF_FIELD, &notes, found)
 }
 
-fn is_static(modifiers: &[Modifier]) -> bool
-    ensures { result ≡ rows.has_static modifiers.now }
-{
-    for modifier in modifiers {
-        if let Modifier::Static(_) = modifier {
-            return true;
-        }
-    }
-    false
-}
-
-fn mark_span(modifier: Modifier) -> Span
-    ensures { result ≡ rows.mark_span modifier }
-{
-    match modifier {
-        Modifier::Annotation(annotation) => annotation.span,
-        Modifier::Public(span) => span,
-        Modifier::Protected(span) => span,
-        Modifier::Private(span) => span,
-        Modifier::Static(span) => span,
-        Modifier::Final(span) => span,
-        Modifier::Abstract(span) => span,
-    }
-}
-
-fn base_span(base: Base) -> Span
-    ensures { result ≡ rows.base_span base }
-{
-    match base {
-        Base::Class(name) => name.span,
-        Base::Int(span) => span,
-        Base::Boolean(span) => span,
-    }
-}
-
-/// The first token of a field's declaration, where an annotation counts as one.
-fn first_mark(modifiers: &[Modifier], written: &TypeUse) -> Span
-    ensures { result ≡ rows.first_mark modifiers.now (placed_type_use written.now) }
-{
-    match modifiers {
-        [] => base_span(written.base),
-        [first, ..] => mark_span(*first),
-    }
-}
-
 /// Puts a field of an interface, or a static one of a class.
 fn field(
     interface: bool,
@@ -157,7 +113,7 @@ fn field(
     let at = first_mark(modifiers, written);
     if interface {
         refuse(found, Cause::InterfaceField, at)
-    } else if is_static(modifiers) {
+    } else if has_static(modifiers) {
         refuse(found, Cause::StaticField, at)
     } else {
         Ok(())
