@@ -1,12 +1,13 @@
 //! Steps along a file's tokens: what stands after the tokens of the parts of its tree.
-ghost use Rattle.std.specs.Prelude.{◌≡◌, ◌∷◌, drop, map, IfOk};
+ghost use Rattle.std.specs.Prelude.{◌≡◌, ◌∷◌, map, IfOk};
 ghost use Rattle.jn_trees.specs.Spelling.{spell_all_marks, spell_annotations, spell_brackets, spell_dots, spell_dotted, spell_import, spell_imports, spell_mark, spell_marks, spell_member, spell_names, spell_package_line, spell_parent, spell_result, spell_star, spell_type, spell_type_use};
 ghost use Rattle.jn_trees.specs.View.{annotation_names, brackets_view, dotted_view, identifier_names, import_view, local_mark, local_marks, mark, marks, member_view, package_view, parameter_view, parent_view, receiver_view, result_view, type_use_view, type_view};
-ghost use Rattle.jn_places.specs.Places.{behind, front as spec_front, spell_local_mark, spell_parameter_through, spell_receiver};
+ghost use Rattle.jn_places.specs.Places.{behind, spell_local_mark, spell_parameter_through, spell_receiver};
 ghost use Rattle.jn_trees.specs.declared.token.TokenKind.TheVariants.{Extends, Implements, Package as PackageWord};
 
 use crate::parts::items_behind;
-use jn_base::{FileNo, OutOfMemory, Span};
+use jn_base::OutOfMemory;
+pub use jn_places::{front, step};
 use jn_trees::{
     Annotation, Identifier, Import, LocalModifier, Member, Modifier, PackageLine, Parameter,
     Receiver, ResultUse, Token, TypeTree, TypeUse,
@@ -14,31 +15,6 @@ use jn_trees::{
 use jn_trees_spelling::declarations::spell_type as put_type;
 use jn_trees_spelling::members::spell_member as put_member;
 use std::alloc::Global;
-
-/// The tokens after the first.
-pub fn step(tokens: &[Token]) -> &[Token]
-    ensures { result.now ≡ drop 1 tokens.now }
-{
-    match tokens.split_first() {
-        None => tokens,
-        Some((_, rest)) => rest,
-    }
-}
-
-/// The place of the first token.
-pub fn front(tokens: &[Token]) -> Span
-    ensures { result ≡ spec_front tokens.now }
-{
-    if tokens.is_empty() {
-        Span {
-            file: FileNo(0),
-            from: 0,
-            to: 0,
-        }
-    } else {
-        tokens[0].span
-    }
-}
 
 fn behind_mark(tokens: &[Token], modifier: Modifier) -> &[Token]
     ensures { result.now ≡ behind tokens.now (spell_mark (mark modifier)) }

@@ -78,7 +78,7 @@ fn send_args(
 }
 
 /// The slots of the method's parameters.
-fn param_slots(program: &Program, method: MethodNo) -> &[Option<SlotNo>]
+pub fn param_slots(program: &Program, method: MethodNo) -> &[Option<SlotNo>]
     ensures { result.now ≡ slots_of (method_at program.now method.0) }
 {
     match program.methods.as_slice().get(method.0 as usize) {
@@ -102,7 +102,8 @@ fn send_call(
     send_args(program, list, env, param_slots(program, method), args)
 }
 
-fn receiver_slot(program: &Program, method: MethodNo) -> Option<SlotNo>
+/// The slot of a method's receiver.
+pub fn receiver_slot(program: &Program, method: MethodNo) -> Option<SlotNo>
     ensures { result ≡ receiver_slot_of (method_at program.now method.0) }
 {
     match program.methods.as_slice().get(method.0 as usize) {
@@ -112,7 +113,7 @@ fn receiver_slot(program: &Program, method: MethodNo) -> Option<SlotNo>
 }
 
 /// The slot of the result of the body's method.
-fn result_slot(program: &Program, body: BodyNo) -> Option<SlotNo>
+pub fn result_slot(program: &Program, body: BodyNo) -> Option<SlotNo>
     ensures { result ≡ result_slot_of (method_in program.now body.0) }
 {
     match program.bodies.as_slice().get(body.0 as usize) {

@@ -89,7 +89,8 @@ pub fn new_array(
     })
 }
 
-fn is_equal(operator: Operator) -> bool
+/// Whether the operator is `==`.
+pub fn is_equal(operator: Operator) -> bool
     ensures { result ≡ form.is_equal operator }
 {
     match operator {
@@ -98,7 +99,8 @@ fn is_equal(operator: Operator) -> bool
     }
 }
 
-fn references(operator: Operator, left: BaseType, right: BaseType) -> bool
+/// Whether an operator on sides of these types compares references (JLS 15.21.3).
+pub fn references(operator: Operator, left: BaseType, right: BaseType) -> bool
     ensures { result ≡ form.references operator left right }
 {
     match operator {

@@ -17,6 +17,7 @@ use crate::halt::Halt;
 use crate::values::{got, prim, shown};
 use crate::world::World;
 use jn_base::{ClassNo, Span};
+use jn_lower_expr::operators::{is_equal, references};
 use jn_machine::{Got, Primitive, Value, prim as numbers, straight, text};
 use jn_points::lookup::is_reference;
 use jn_points::{BaseType, Operator, Program, StrOperation};
@@ -113,25 +114,6 @@ fn same_of(equal: bool, left: &Option<Value>, right: &Option<Value>) -> Got<Valu
                 Got::Gives(Value::plain(Primitive::bool(if equal { same } else { !same })))
             }
         },
-    }
-}
-
-fn is_equal(operator: Operator) -> bool
-    ensures { result ≡ form.is_equal operator }
-{
-    match operator {
-        Operator::Equal => true,
-        _ => false,
-    }
-}
-
-fn references(operator: Operator, left: BaseType, right: BaseType) -> bool
-    ensures { result ≡ form.references operator left right }
-{
-    match operator {
-        Operator::Equal => is_reference(left) && is_reference(right),
-        Operator::NotEqual => is_reference(left) && is_reference(right),
-        _ => false,
     }
 }
 
