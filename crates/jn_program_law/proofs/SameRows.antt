@@ -20,7 +20,8 @@ use Rattle.jn_points.specs.Paths.{Avoids, Lacks, Path, Reached, Step}
 use Rattle.jn_points.specs.BaseRows.{Want, Within, Primitive, Same, Reference, Elements, Joinable, Printable, Valued, is_void, other_nullity, returned, string_base, suits, operand_rows, all_rows, argument_rows, optional_rows, binary_rows, type_rows, result_rows, IsUnassigned, TypeRow, UnassignedRow, ResultRow, IsBaseRow, NoBaseRows}
 use Rattle.jn_heads.specs.Inferred.{slots_by}
 use Rattle.jn_program_law.specs.FileProgram.{inferring, program_of_files}
-use Rattle.jn_program_law.proofs.SameSlots.{fits_same, other}
+use Rattle.jn_lowering.proofs.SameClasses.{fits_same}
+use Rattle.jn_program_law.proofs.SameSlots.{other}
 
 both : (xs ys us vs : List Row) → xs ≡ ys → us ≡ vs → xs ++ us ≡ ys ++ vs
 both xs ys us vs x y = ap (λ r. r ++ us) x ∙ ap (λ r. ys ++ r) y
@@ -30,7 +31,7 @@ module _ (P : Program) (slots : List SlotInfo) where
   Q = other P slots
 
   suits_same : (w : Want) (t : BaseType) → suits Q w t ≡ suits P w t
-  suits_same (Within base) t = ap (λ b. not (is_void t) && b) (fits_same P slots t base)
+  suits_same (Within base) t = ap (λ b. not (is_void t) && b) (fits_same P P.bodies slots t base)
   suits_same Primitive t = refl
   suits_same (Same base) t = refl
   suits_same Reference t = refl
