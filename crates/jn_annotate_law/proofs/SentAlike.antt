@@ -25,22 +25,9 @@ use Rattle.jn_places_law.proofs.Flow.{own_keys_is}
 use Rattle.jn_places_law.proofs.Lookups.{class_bare, field_info_is, filter_same, is_pair_is, method_at_is, method_in_is, slots_at_is, some_same}
 use Rattle.jn_places_law.proofs.RowForms.{across}
 use Rattle.std.proofs.lemmas.List.{length-map}
+use Rattle.jn_contrib.proofs.Sent.{sent_cases, sent_left, sent_right}
 
 -- ---- one list after another
-
-sent_left : (x : ℕ × Qualifier) (xs ys : List (ℕ × Qualifier)) → IsSent x xs → IsSent x (xs ++ ys)
-sent_left x [] ys h = absurd h
-sent_left x (y ∷ xs) ys (inl e) = inl e
-sent_left x (y ∷ xs) ys (inr h) = inr (sent_left x xs ys h)
-
-sent_right : (x : ℕ × Qualifier) (xs ys : List (ℕ × Qualifier)) → IsSent x ys → IsSent x (xs ++ ys)
-sent_right x [] ys h = h
-sent_right x (y ∷ xs) ys h = inr (sent_right x xs ys h)
-
-sent_cases : (x : ℕ × Qualifier) (xs ys : List (ℕ × Qualifier)) → IsSent x (xs ++ ys) → IsSent x xs ⊎ IsSent x ys
-sent_cases x [] ys h = inr h
-sent_cases x (y ∷ xs) ys (inl e) = inl (inl e)
-sent_cases x (y ∷ xs) ys (inr h) = ⊎_elim (λ a. inl (inr a)) (λ b. inr b) (sent_cases x xs ys h)
 
 both : (x : ℕ × Qualifier) (xs ys us vs : List (ℕ × Qualifier)) → (IsSent x xs → IsSent x us) → (IsSent x ys → IsSent x vs) → IsSent x (xs ++ ys) → IsSent x (us ++ vs)
 both x xs ys us vs f g m = ⊎_elim (λ h. sent_left x us vs (f h)) (λ h. sent_right x us vs (g h)) (sent_cases x xs ys m)

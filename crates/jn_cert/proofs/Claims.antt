@@ -1,5 +1,5 @@
 -- Nothing fails exactly where the claim holds.
-use Rattle.std.proofs.Common.{◌≡◌, ◌⊎◌, inl, inr, ⊎_elim, ℕ, zero, suc, ◌+◌, ◌-◌, ◌<◌, Bool, true, false, ◌||◌, List, [], ◌∷◌, ◌++◌, length, Option, Some, None, refl, sym, ap, ◌∙◌, subst, arith}
+use Rattle.std.proofs.Common.{◌≡◌, ◌⊎◌, inl, inr, ⊎_elim, ℕ, zero, suc, ◌+◌, ◌-◌, ◌<◌, Bool, true, false, ◌||◌, List, [], ◌∷◌, length, Option, Some, None, refl, sym, ap, ◌∙◌, subst, arith}
 use Rattle.std.specs.Prelude.{IsTrue, flat_map, slice_get, slice_index_or, cond, min}
 use Rattle.std.specs.List.{Contains}
 use Rattle.std.proofs.lemmas.Bool.{and_parts, and_from, cases_lt, lt-ltb}
@@ -28,6 +28,7 @@ use Rattle.jn_cert_judge.specs.declared.fault.CertFault.{CertFault}
 use Rattle.jn_cert_judge.specs.Judging.{or_else, unless, is_inside, all_stay, broken, lesser, note_all, open_fault, all_sends, every_send, overriding_sends, slot_keeps, slots_fault, point_fault, points_fault, body_fault, bodies_fault, first_fault, IsFoundAfter, IsFirstFault}
 use Rattle.jn_cert_judge.proofs.Inside.{inside_of, inside_is}
 use Rattle.jn_cert_law.specs.Holds.{AllOk, BodyOk, SlotOk, SentOk}
+use Rattle.jn_contrib.proofs.Sent.{sent_cases, sent_left, sent_right}
 
 -- parts of a search that found nothing
 neither : (a b : Option CertFault) → or_else a b ≡ None → (a ≡ None) × (b ≡ None)
@@ -193,20 +194,6 @@ module _ (P : Program) (s : List Qualifier) where
       (from_bodies tables (i + 1) (λ k lt. let next : i + suc k ≡ (i + 1) + k = omega arith in subst (λ n. body_fault P s n (slice_index_or tables k []) ≡ None) next (h (suc k) (omega (arith, lt)))))
 
   -- what is sent
-  sent_left : (x : ℕ × Qualifier) (xs ys : List (ℕ × Qualifier)) → IsSent x xs → IsSent x (xs ++ ys)
-  sent_left x [] ys h = absurd h
-  sent_left x (y ∷ xs) ys (inl e) = inl e
-  sent_left x (y ∷ xs) ys (inr h) = inr (sent_left x xs ys h)
-
-  sent_right : (x : ℕ × Qualifier) (xs ys : List (ℕ × Qualifier)) → IsSent x ys → IsSent x (xs ++ ys)
-  sent_right x [] ys h = h
-  sent_right x (y ∷ xs) ys h = inr (sent_right x xs ys h)
-
-  sent_cases : (x : ℕ × Qualifier) (xs ys : List (ℕ × Qualifier)) → IsSent x (xs ++ ys) → IsSent x xs ⊎ IsSent x ys
-  sent_cases x [] ys h = inr h
-  sent_cases x (y ∷ xs) ys (inl e) = inl (inl e)
-  sent_cases x (y ∷ xs) ys (inr h) = ⊎_elim (λ a. inl (inr a)) (λ b. inr b) (sent_cases x xs ys h)
-
   sent_all : (tables : List (List (Option Env))) (i k : ℕ) (x : ℕ × Qualifier) → IsSent x (body_sends P (i + k) (slice_index_or tables k [])) → k < length tables → IsSent x (all_sends P tables i)
   sent_all [] i k x m lt = absurd (omega (arith, lt))
   sent_all (t ∷ tables) i zero x m lt = let here : i + 0 ≡ i = omega arith in sent_left x (body_sends P i t) (all_sends P tables (i + 1)) (subst (λ n. IsSent x (body_sends P n t)) here m)

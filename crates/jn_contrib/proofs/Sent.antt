@@ -11,16 +11,17 @@ use Rattle.jn_transfer.specs.Contributions.{IsSent, kind_sends}
 use Rattle.jn_contrib.specs.Sends.{point_sends, sends_from, body_sends}
 use Rattle.jn_contrib.specs.SentBy.{IsSentBy}
 
-sent_left : (x : ℕ × Qualifier) (xs ys : List (ℕ × Qualifier)) → IsSent x xs → IsSent x (xs ++ ys)
+-- what is sent of one list after another
+pub sent_left : (x : ℕ × Qualifier) (xs ys : List (ℕ × Qualifier)) → IsSent x xs → IsSent x (xs ++ ys)
 sent_left x [] ys h = absurd h
 sent_left x (y ∷ xs) ys (inl e) = inl e
 sent_left x (y ∷ xs) ys (inr h) = inr (sent_left x xs ys h)
 
-sent_right : (x : ℕ × Qualifier) (xs ys : List (ℕ × Qualifier)) → IsSent x ys → IsSent x (xs ++ ys)
+pub sent_right : (x : ℕ × Qualifier) (xs ys : List (ℕ × Qualifier)) → IsSent x ys → IsSent x (xs ++ ys)
 sent_right x [] ys h = h
 sent_right x (y ∷ xs) ys h = inr (sent_right x xs ys h)
 
-sent_cases : (x : ℕ × Qualifier) (xs ys : List (ℕ × Qualifier)) → IsSent x (xs ++ ys) → IsSent x xs ⊎ IsSent x ys
+pub sent_cases : (x : ℕ × Qualifier) (xs ys : List (ℕ × Qualifier)) → IsSent x (xs ++ ys) → IsSent x xs ⊎ IsSent x ys
 sent_cases x [] ys h = inr h
 sent_cases x (y ∷ xs) ys (inl e) = inl (inl e)
 sent_cases x (y ∷ xs) ys (inr h) = ⊎_elim (λ a. inl (inr a)) (λ b. inr b) (sent_cases x xs ys h)

@@ -1,5 +1,5 @@
 -- What overriding methods send: it grows with the signature, depends on the slots that they read alone, and goes to inferred slots.
-use Rattle.std.proofs.Common.{◌≡◌, ℕ, zero, suc, ◌<◌, ◌⊎◌, inl, inr, ⊎_elim, Bool, true, false, cond, List, [], ◌∷◌, ◌++◌, length, Option, Some, None, refl, sym, ap, subst, arith}
+use Rattle.std.proofs.Common.{◌≡◌, ℕ, zero, suc, ◌<◌, inl, inr, Bool, true, false, cond, List, [], ◌∷◌, ◌++◌, length, Option, Some, None, refl, sym, ap, subst, arith}
 use Rattle.std.specs.Prelude.{IsTrue, flat_map, slice_get, slice_index_or}
 use Rattle.jn_base.specs.declared.number.SlotNo.{SlotNo}
 use Rattle.jn_quals.specs.Qualifier.{Qualifier}
@@ -12,40 +12,12 @@ use Rattle.jn_env.specs.Order.{QualsWithin}
 use Rattle.jn_env.proofs.Order.{quals_at}
 use Rattle.jn_transfer.specs.Contributions.{IsSent, is_inferred, receiver_slot_of, result_slot_of, sends}
 use Rattle.jn_tables_law.specs.CoveredSend.{CoveredSend}
+use Rattle.jn_tables_law.proofs.Sends.{both_covered, if_inferred}
 use Rattle.jn_transfer.specs.Pairs.{under, slot_sends, slots_sends, override_sends, pair_sends}
 use Rattle.jn_inference_law.specs.Inference.{words_for}
 use Rattle.jn_inference_law.specs.Reading.{Agree, slot_list, slot_lists, given_reads, methods_reads, pair_reads}
 use Rattle.jn_inference_law.proofs.PackingLaws.{SentBelow}
 use Rattle.jn_inference_law.proofs.ReadingLaws.{agree_left, agree_right}
-
--- sends of one of two lists
-left : (x : ℕ × Qualifier) (xs ys : List (ℕ × Qualifier)) → IsSent x xs → IsSent x (xs ++ ys)
-left x [] ys h = absurd h
-left x (y ∷ xs) ys (inl e) = inl e
-left x (y ∷ xs) ys (inr h) = inr (left x xs ys h)
-
-right : (x : ℕ × Qualifier) (xs ys : List (ℕ × Qualifier)) → IsSent x ys → IsSent x (xs ++ ys)
-right x [] ys h = h
-right x (y ∷ xs) ys h = inr (right x xs ys h)
-
-either_of : (x : ℕ × Qualifier) (xs ys : List (ℕ × Qualifier)) → IsSent x (xs ++ ys) → IsSent x xs ⊎ IsSent x ys
-either_of x [] ys h = inr h
-either_of x (y ∷ xs) ys (inl e) = inl (inl e)
-either_of x (y ∷ xs) ys (inr h) = ⊎_elim (λ a. inl (inr a)) (λ b. inr b) (either_of x xs ys h)
-
-covered_left : (x : ℕ × Qualifier) (xs ys : List (ℕ × Qualifier)) → CoveredSend x xs → CoveredSend x (xs ++ ys)
-covered_left x xs ys c = record { qual = c.qual; there = left (x.0, c.qual) xs ys c.there; above = c.above }
-
-covered_right : (x : ℕ × Qualifier) (xs ys : List (ℕ × Qualifier)) → CoveredSend x ys → CoveredSend x (xs ++ ys)
-covered_right x xs ys c = record { qual = c.qual; there = right (x.0, c.qual) xs ys c.there; above = c.above }
-
-both_covered : (x : ℕ × Qualifier) (xs ys us vs : List (ℕ × Qualifier)) → (IsSent x xs → CoveredSend x us) → (IsSent x ys → CoveredSend x vs) → IsSent x (xs ++ ys) → CoveredSend x (us ++ vs)
-both_covered x xs ys us vs f g m = ⊎_elim (λ h. covered_left x us vs (f h)) (λ h. covered_right x us vs (g h)) (either_of x xs ys m)
-
-if_inferred : (c : Bool) (n : ℕ) (p q : Qualifier) (x : ℕ × Qualifier) → IsTrue (within p q) → IsSent x (cond c ((n, p) ∷ []) []) → CoveredSend x (cond c ((n, q) ∷ []) [])
-if_inferred true n p q x w (inl e) = subst (λ y. CoveredSend y ((n, q) ∷ [])) (sym e) (record { qual = q; there = inl refl; above = w })
-if_inferred true n p q x w (inr m) = absurd m
-if_inferred false n p q x w m = absurd m
 
 sends_above : (P : Program) (slot : Option SlotNo) (p q : Qualifier) (x : ℕ × Qualifier) → IsTrue (within p q) → IsSent x (sends P slot p) → CoveredSend x (sends P slot q)
 sends_above P None p q x w m = absurd m

@@ -103,7 +103,7 @@ flow_all_least (y ∷ xs) t u w h =
 
 module _ (P : Program) (s : List Qualifier) (b : ℕ) where
   -- where an edge of the table comes from
-  record Comes (points : List Point) (p0 : ℕ) (t : Table) (x : ℕ × Env) : Type 0 where
+  pub record Comes (points : List Point) (p0 : ℕ) (t : Table) (x : ℕ × Env) : Type 0 where
     pub k : ℕ
     pub pt : Point
     pub env : Env
@@ -123,7 +123,7 @@ module _ (P : Program) (s : List Qualifier) (b : ℕ) where
       let next : (p + 1) + k ≡ p + suc k = omega arith in
       record { k = suc c.k; pt = c.pt; env = c.env; point = c.point; reached = subst (λ n. env_in t n ≡ Some c.env) next c.reached; edge = subst (λ n. IsAmong x (transfer P s b c.pt.kind n c.env)) next c.edge }
 
-  comes : (points : List Point) (p : ℕ) (t : Table) (x : ℕ × Env) → IsAmong x (all_edges P s b points p t) → Comes points p t x
+  pub comes : (points : List Point) (p : ℕ) (t : Table) (x : ℕ × Env) → IsAmong x (all_edges P s b points p t) → Comes points p t x
   comes [] p t x m = absurd m
   comes (pt ∷ pts) p t x m =
       ⊎_elim (λ h. comes_here pt pts p t x (env_in t p) refl h) (λ h. comes_later pt pts p t x (comes pts (p + 1) t x h)) (among_cases x (edges_from P s b pt p (env_in t p)) (all_edges P s b pts (p + 1) t) m)

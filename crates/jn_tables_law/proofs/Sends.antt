@@ -18,33 +18,19 @@ use Rattle.jn_env.proofs.Order.{env_qual, table_at}
 use Rattle.jn_transfer.specs.Contributions.{IsSent, arg_sends, field_slot_of, is_inferred, kind_sends, receiver_sends, receiver_slot_of, result_slot_of, return_sends, sends, unset_sends}
 use Rattle.jn_contrib.specs.Sends.{body_sends}
 use Rattle.jn_contrib.specs.SentBy.{IsSentBy}
-use Rattle.jn_contrib.proofs.Sent.{of_a_point, of_the_body}
+use Rattle.jn_contrib.proofs.Sent.{of_a_point, of_the_body, sent_cases, sent_left, sent_right}
 use Rattle.jn_tables_law.specs.CoveredSend.{CoveredSend}
 
-sent_left : (x : ℕ × Qualifier) (xs ys : List (ℕ × Qualifier)) → IsSent x xs → IsSent x (xs ++ ys)
-sent_left x [] ys h = absurd h
-sent_left x (y ∷ xs) ys (inl e) = inl e
-sent_left x (y ∷ xs) ys (inr h) = inr (sent_left x xs ys h)
-
-sent_right : (x : ℕ × Qualifier) (xs ys : List (ℕ × Qualifier)) → IsSent x ys → IsSent x (xs ++ ys)
-sent_right x [] ys h = h
-sent_right x (y ∷ xs) ys h = inr (sent_right x xs ys h)
-
-sent_cases : (x : ℕ × Qualifier) (xs ys : List (ℕ × Qualifier)) → IsSent x (xs ++ ys) → IsSent x xs ⊎ IsSent x ys
-sent_cases x [] ys h = inr h
-sent_cases x (y ∷ xs) ys (inl e) = inl (inl e)
-sent_cases x (y ∷ xs) ys (inr h) = ⊎_elim (λ a. inl (inr a)) (λ b. inr b) (sent_cases x xs ys h)
-
-covered_left : (x : ℕ × Qualifier) (xs ys : List (ℕ × Qualifier)) → CoveredSend x xs → CoveredSend x (xs ++ ys)
+pub covered_left : (x : ℕ × Qualifier) (xs ys : List (ℕ × Qualifier)) → CoveredSend x xs → CoveredSend x (xs ++ ys)
 covered_left x xs ys c = record { qual = c.qual; there = sent_left (x.0, c.qual) xs ys c.there; above = c.above }
 
-covered_right : (x : ℕ × Qualifier) (xs ys : List (ℕ × Qualifier)) → CoveredSend x ys → CoveredSend x (xs ++ ys)
+pub covered_right : (x : ℕ × Qualifier) (xs ys : List (ℕ × Qualifier)) → CoveredSend x ys → CoveredSend x (xs ++ ys)
 covered_right x xs ys c = record { qual = c.qual; there = sent_right (x.0, c.qual) xs ys c.there; above = c.above }
 
-both_covered : (x : ℕ × Qualifier) (xs ys us vs : List (ℕ × Qualifier)) → (IsSent x xs → CoveredSend x us) → (IsSent x ys → CoveredSend x vs) → IsSent x (xs ++ ys) → CoveredSend x (us ++ vs)
+pub both_covered : (x : ℕ × Qualifier) (xs ys us vs : List (ℕ × Qualifier)) → (IsSent x xs → CoveredSend x us) → (IsSent x ys → CoveredSend x vs) → IsSent x (xs ++ ys) → CoveredSend x (us ++ vs)
 both_covered x xs ys us vs f g m = ⊎_elim (λ h. covered_left x us vs (f h)) (λ h. covered_right x us vs (g h)) (sent_cases x xs ys m)
 
-if_inferred : (c : Bool) (n : ℕ) (p q : Qualifier) (x : ℕ × Qualifier) → IsTrue (within p q) → IsSent x (cond c ((n, p) ∷ []) []) → CoveredSend x (cond c ((n, q) ∷ []) [])
+pub if_inferred : (c : Bool) (n : ℕ) (p q : Qualifier) (x : ℕ × Qualifier) → IsTrue (within p q) → IsSent x (cond c ((n, p) ∷ []) []) → CoveredSend x (cond c ((n, q) ∷ []) [])
 if_inferred true n p q x w (inl e) = subst (λ y. CoveredSend y ((n, q) ∷ [])) (sym e) (record { qual = q; there = inl refl; above = w })
 if_inferred true n p q x w (inr m) = absurd m
 if_inferred false n p q x w m = absurd m
