@@ -1,6 +1,5 @@
 -- What stands in a text that ends with a line feed stands there when more text follows.
-use Rattle.std.proofs.Common.{◌≡◌, ℕ, ◌<◌, Bool, true, ◌⊎◌, inl, inr, ⊎_elim, List, [], ◌∷◌, ◌++◌, length, refl, sym, ap, ◌∙◌, subst, arith, append_assoc}
-use Rattle.std.specs.Prelude.{nat_eq}
+use Rattle.std.proofs.Common.{◌≡◌, ℕ, Bool, true, ◌⊎◌, inl, inr, ⊎_elim, List, [], ◌∷◌, ◌++◌, length, refl, sym, ap, ◌∙◌, subst, append_assoc}
 use Rattle.std.proofs.lemmas.Bool.{cases_lt, false≢true}
 use Rattle.std.proofs.lemmas.List.{append-nil}
 use Rattle.jn_lexer.specs.Characters.{is_line_end, is_in_line, AllAre, BeginsOnly, BeginsNot}
@@ -10,6 +9,7 @@ use Rattle.jn_lexer.specs.Pieces.{Piece, Stands, Behind}
 use Rattle.jn_lexer.proofs.Standing.{some_spelling}
 use Rattle.jn_lex_shared.specs.Cut.{EndsLine}
 use Rattle.jn_lex_shared.proofs.Feeds.{not_feed, all_no_feed, in_line_10, no_feed}
+use Rattle.jn_lexer.proofs.Shifting.{close_before}
 
 -- the end of two texts is the end of the second, or the second is empty and it is that of the first
 end_of : (xs ys before : List ℕ) → xs ++ ys ≡ before ++ 10 ∷ [] → EndsLine ys ⊎ ((ys ≡ []) × EndsLine xs)
@@ -64,20 +64,6 @@ none_longer_on n text more e h l word rest is spelled =
     let cut : e.0 ++ 10 ∷ more ≡ word ++ rest = sym (append_assoc e.0 (10 ∷ []) more) ∙ ap (λ t. t ++ more) (sym e.1) ∙ is in
     let r = word_before word rest e.0 more cut (no_feed l word spelled) in
     h l word r.0 (e.1 ∙ r.1) spelled
-
--- a close before the first one stands in the comment and its close
-close_before : (inside text more shorter tail : List ℕ) → inside ++ 42 ∷ 47 ∷ (text ++ more) ≡ shorter ++ 42 ∷ 47 ∷ tail → length shorter < length inside → (left : List ℕ) × (inside ++ 42 ∷ 47 ∷ text ≡ shorter ++ 42 ∷ 47 ∷ left)
-close_before [] text more shorter tail e lt = absurd (omega arith)
-close_before (c ∷ []) text more [] tail e lt = absurd (let same : ◌≡◌ {A = ℕ} 42 47 = cc in false≢true (ap (nat_eq 47) same))
-close_before (c ∷ d ∷ inside) text more [] tail e lt =
-    let one : c ≡ 42 = cc in
-    let two : d ≡ 47 = cc in
-    (inside ++ 42 ∷ 47 ∷ text, cc)
-close_before (c ∷ inside) text more (s ∷ shorter) tail e lt =
-    let rest : inside ++ 42 ∷ 47 ∷ (text ++ more) ≡ shorter ++ 42 ∷ 47 ∷ tail = cc in
-    let head : c ≡ s = cc in
-    let r = close_before inside text more shorter tail rest (omega arith) in
-    (r.0, ap (λ z. z ∷ (inside ++ 42 ∷ 47 ∷ text)) head ∙ ap (λ l. s ∷ l) r.1)
 
 next_close_on : (inside text more : List ℕ) → IsNextClose inside text → IsNextClose inside (text ++ more)
 next_close_on inside text more h shorter tail is =

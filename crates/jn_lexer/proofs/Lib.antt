@@ -8,6 +8,7 @@ pub mod Quotes
 pub mod Escaping
 pub mod Values
 pub mod Widths
+pub mod Shifting
 pub mod Reading
 pub mod Onto
 pub mod OneGap

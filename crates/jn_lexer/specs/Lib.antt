@@ -6,5 +6,6 @@ pub mod Pieces
 pub mod Faults
 pub mod Lexed
 pub mod Moved
+pub mod Shifted
 pub mod Scan
 pub mod Found

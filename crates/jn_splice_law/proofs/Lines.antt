@@ -21,15 +21,17 @@ use Rattle.jn_lexer.specs.Lexed.{Lexed, names_after, tokens_of}
 use Rattle.jn_lexer.proofs.Classes.{start_ascii, part_ascii, digit_start, not_true}
 use Rattle.jn_lexer.proofs.Standing.{first, start_parts}
 use Rattle.jn_lexer.proofs.Widths.{width-append}
-use Rattle.jn_splice_law.specs.Spliced.{is_seam, BeginsSeam, shifted, is_clean}
+use Rattle.jn_splice_law.specs.Spliced.{is_seam, BeginsSeam, is_clean}
 use Rattle.jn_splice_law.specs.Woven.{is_ascii, Note, rest_text, import_text, rest_kinds, import_kinds, IsNote, AreNotes, IsLineEnd}
 use Rattle.jn_splice_law.proofs.Seams.{all_at, front_in}
-use Rattle.jn_splice_law.proofs.Splicing.{behind_shifted, behind_gap, all_of}
+use Rattle.jn_splice_law.proofs.Splicing.{all_of}
 use Rattle.jn_splice_law.proofs.Clean.{no_escape_by, pieces_clean}
 use Rattle.jn_splice_law.proofs.Texts.{nothing_on, pieces_on, scalars-append, shifted-sum}
 use Rattle.jn_splice_law.proofs.Wording.{piece_at, alone, longest_space, free_word, white_32}
 use Rattle.jn_splice_law.proofs.Naming.{piece_kinds, kinds_are, names_append, names_shifted, kinds_append, kinds_shifted}
 use Rattle.jn_splice_law.proofs.Forms.{Kept, kept_append, kept_shifted, kept_name, kept_fixed, note_known, all_append, clean_append, word_clean, ascii_scalars, ascii_bytes}
+use Rattle.jn_lexer.specs.Shifted.{shifted}
+use Rattle.jn_lexer.proofs.Shifting.{behind_shifted, behind_gap}
 
 both : (b : Bool) → b ≡ true → b ≡ false → ⊥
 both b t f = false≢true (sym f ∙ t)
