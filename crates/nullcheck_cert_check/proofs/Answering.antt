@@ -1,9 +1,8 @@
 -- What is written answers the words.
-use Rattle.std.proofs.Common.{◌≡◌, ℕ, ◌<◌, inl, inr, List, [], ◌∷◌, length, Option, Some, None, Result, Ok as Made, Err, refl, sym, ap, ◌∙◌, subst, arith}
+use Rattle.std.proofs.Common.{◌≡◌, ℕ, ◌<◌, inl, inr, List, [], ◌∷◌, length, Option, Some, None, Result, Ok as Made, Err, refl, sym, ap, subst, arith}
 use Rattle.std.specs.Prelude.{IfOk}
 use Rattle.jn_base.specs.declared.infer.Infer.{Infer}
 use Rattle.jn_base.specs.declared.refusal.OutOfMemory.{OutOfMemory as NoMemory}
-use Rattle.jn_outside.specs.Causes.{Rose}
 use Rattle.jn_outside.specs.declared.given.Given.{Given}
 use Rattle.jn_outside.specs.Files.{Holding}
 use Rattle.jn_outside.specs.Sink.{Appends}
@@ -16,6 +15,7 @@ use Rattle.jn_command.specs.declared.status.Status.{Status}
 use Rattle.jn_command.specs.declared.status.Status.TheVariants.{Ok, Rejected, Refused as RefusedStatus, RunFault, Stopped, ReadFault, WriteFault, OutOfMemory, Usage}
 use Rattle.jn_command.specs.Answer.{AnswersBy, Finished, Reading, reading}
 use Rattle.jn_command.specs.Outputs.{IfMade}
+use Rattle.jn_command.proofs.Ending.{Written, Ends}
 use Rattle.nullcheck_cert_check.specs.declared.certificate.CertRead.{CertRead}
 use Rattle.nullcheck_cert_check.specs.declared.verdict.CertVerdict.{CertVerdict}
 use Rattle.nullcheck_cert_check.specs.declared.verdict.CertVerdict.TheVariants.{Refused, TooLarge, Faulty, Certified as CertifiedVerdict}
@@ -70,30 +70,11 @@ stopped_ok e = cc
 stopped_usage_status : Stopped ≡ Usage → ⊥
 stopped_usage_status e = cc
 
-memory_write_fault : OutOfMemory ≡ WriteFault → ⊥
-memory_write_fault e = cc
-
--- statuses after which something was written whole
-abbrev pub Written : Status → Type 0
-Written Ok = Unit {0}
-Written Rejected = Unit {0}
-Written RefusedStatus = Unit {0}
-Written Usage = Unit {0}
-Written RunFault = ⊥
-Written Stopped = ⊥
-Written ReadFault = ⊥
-Written WriteFault = ⊥
-Written OutOfMemory = ⊥
-
 verdict_written : (v : CertVerdict) → Written (status_of v)
 verdict_written (Refused rows) = tt
 verdict_written TooLarge = tt
 verdict_written (Faulty P fault) = tt
 verdict_written (CertifiedVerdict accepted) = tt
-
--- what the sink took, and the answer
-abbrev pub Ends : Option (List ℕ) → Option (List ℕ) → ℕ → ℕ → Status → Result Output NoMemory → Type 0
-Ends old new before now result made = IfMade made (λ status bytes. Finished old new bytes status before now result) ((result ≡ OutOfMemory) × (new ≡ old) × (now ≡ before))
 
 -- ---- by what is defined
 
@@ -134,17 +115,6 @@ of_files P Q (Err e) files all is = tt
 pub verdict_made : (verdict : CertVerdict) (made : Result Output NoMemory) → IfOk made (λ o. o.status ≡ status_of verdict) → IfMade made (λ status bytes. Written status) (Unit {0})
 verdict_made verdict (Made o) ends = subst Written (sym ends) (verdict_written verdict)
 verdict_made verdict (Err e) ends = tt
-
--- no write fault unless the count rose
-pub no_fault : (old new : Option (List ℕ)) (before now : ℕ) (result : Status) (made : Result Output NoMemory) → IfMade made (λ status bytes. Written status) (Unit {0}) → Ends old new before now result made → result ≡ WriteFault → Rose before now
-no_fault old new before now result (Made r) w (inl p) e = absurd (subst Written (sym p.0 ∙ e) w)
-no_fault old new before now result (Made r) w (inr p) e = p.2
-no_fault old new before now result (Err e1) w f e = absurd (memory_write_fault (sym f.0 ∙ e))
-
-pub always_fault : (old new : Option (List ℕ)) (before now : ℕ) (result : Status) (made : Result Output NoMemory) → Ends old new before now result made → before < now → result ≡ WriteFault
-always_fault old new before now result (Made r) (inl p) lt = absurd (omega (arith, lt, p.2))
-always_fault old new before now result (Made r) (inr p) lt = p.0
-always_fault old new before now result (Err e) f lt = absurd (omega (arith, lt, f.2))
 
 -- ---- of what was read
 

@@ -19,7 +19,8 @@ use Rattle.jn_command.specs.Shown.{shown}
 use Rattle.nullcheck_cert_write.specs.declared.made.CertMade.{CertMade}
 use Rattle.nullcheck_cert_write.specs.declared.made.CertMade.TheVariants.{Refused, Rejected, TooLarge, Made}
 use Rattle.nullcheck_cert_check.specs.Told.{IsRefusalOf}
-use Rattle.nullcheck_cert_check.proofs.Answering.{Ends, IsMany, files_named, named_are}
+use Rattle.jn_command.proofs.Ending.{Ends}
+use Rattle.nullcheck_cert_check.proofs.Answering.{IsMany, files_named, named_are}
 use Rattle.jn_cli.specs.Cert.{Command, command, usage_line}
 use Rattle.nullcheck_cert_write.specs.Answer.{Answers, AnswersFiles, IsTold, Outcome, Tells}
 use Rattle.nullcheck_cert_write.specs.Verdicts.{IsVerdict}

@@ -30,7 +30,8 @@ use Rattle.jn_phase_notes.specs.Stops.{AreStopsBy, is_syntax, stop_notes}
 use Rattle.jn_phases.specs.Phases.{NoneParsed}
 use Rattle.nullcheck_top.specs.Report.{AreNotes, RunsTo, Prints}
 use Rattle.nullcheck_top.specs.Answers.{AnswersFiles}
-use Rattle.nullcheck_top.proofs.Written.{Ends, MadeFor, Written, answers_files, report_shown, files_named, named_are}
+use Rattle.jn_command.proofs.Ending.{Ends, Written}
+use Rattle.nullcheck_top.proofs.Written.{MadeFor, answers_files, report_shown, files_named, named_are}
 
 never_checked : (rows others : List Row) → Refused rows ≡ Checked others → ⊥
 never_checked rows others e = cc

@@ -3,7 +3,6 @@ use Rattle.std.proofs.Common.{◌≡◌, ℕ, zero, suc, ◌<◌, ◌≤◌, inl
 use Rattle.std.specs.Prelude.{IfOk}
 use Rattle.jn_base.specs.declared.infer.Infer.{Infer}
 use Rattle.jn_base.specs.declared.refusal.OutOfMemory.{OutOfMemory as NoMemory}
-use Rattle.jn_outside.specs.Causes.{Rose}
 use Rattle.jn_outside.specs.declared.given.Given.{Given}
 use Rattle.jn_outside.specs.Files.{Holding}
 use Rattle.jn_outside.specs.Sink.{Appends}
@@ -24,19 +23,8 @@ use Rattle.jn_command.specs.Shown.{shown_noted}
 use Rattle.jn_command.specs.Answer.{Reading, Finished}
 use Rattle.nullcheck_top.specs.CommandAnswer.{AreChecked, ReadsFew, ReadsFiles, ReadsNone, ReadsNothing, HoldsFiles, Starts, names_read, AreShownNotes, IsReportOfFiles, IsOutputBy, IsOutputOfFiles, IsOutputOf, Defines, Answers, AnswersFiles, Completes, Safe}
 use Rattle.jn_command.specs.Outputs.{IfMade}
+use Rattle.jn_command.proofs.Ending.{Written, Ends}
 use Rattle.nullcheck_top.specs.Answers.{AsksRun}
-
--- statuses after which a report was written whole
-abbrev pub Written : Status → Type 0
-Written Ok = Unit {0}
-Written Rejected = Unit {0}
-Written RefusedStatus = Unit {0}
-Written Usage = Unit {0}
-Written RunFault = ⊥
-Written Stopped = ⊥
-Written ReadFault = ⊥
-Written WriteFault = ⊥
-Written OutOfMemory = ⊥
 
 pub report_written : (r : Report) → Written (status_of r)
 report_written (Refused rows) = tt
@@ -60,10 +48,6 @@ accepting : (report : Report) → IsAcceptance (status_of report) → status_of 
 accepting (Refused rows) a = absurd a
 accepting (Checked []) a = refl
 accepting (Checked (row ∷ rows)) a = absurd a
-
--- what the sink took, and the answer
-abbrev pub Ends : Option (List ℕ) → Option (List ℕ) → ℕ → ℕ → Status → Result Output NoMemory → Type 0
-Ends old new before now result made = IfMade made (λ status bytes. Finished old new bytes status before now result) ((result ≡ OutOfMemory) × (new ≡ old) × (now ≡ before))
 
 -- files of these names without bytes
 pub files_named : List (List ℕ) → List SourceFile
@@ -208,17 +192,6 @@ module _ (IsReport : Infer → List SourceFile → Report → Type 0) (AreNotes 
 pub status_written : (report : Report) (made : Result Output NoMemory) → IfOk made (λ o. o.status ≡ status_of report) → IfMade made (λ status bytes. Written status) (Unit {0})
 status_written report (Made o) status = subst Written (sym status) (report_written report)
 status_written report (Err e) status = tt
-
--- no write fault unless the count rose
-pub no_fault : (old new : Option (List ℕ)) (before now : ℕ) (result : Status) (made : Result Output NoMemory) → IfMade made (λ status bytes. Written status) (Unit {0}) → Ends old new before now result made → result ≡ WriteFault → Rose before now
-no_fault old new before now result (Made r) w (inl p) e = absurd (subst Written (sym p.0 ∙ e) w)
-no_fault old new before now result (Made r) w (inr p) e = p.2
-no_fault old new before now result (Err e1) w f e = absurd (let x : OutOfMemory ≡ WriteFault = sym f.0 ∙ e in cc)
-
-pub always_fault : (old new : Option (List ℕ)) (before now : ℕ) (result : Status) (made : Result Output NoMemory) → Ends old new before now result made → before < now → result ≡ WriteFault
-always_fault old new before now result (Made r) (inl p) lt = absurd (omega (arith, lt, p.2))
-always_fault old new before now result (Made r) (inr p) lt = p.0
-always_fault old new before now result (Err e) f lt = absurd (omega (arith, lt, f.2))
 
 -- nothing was started
 pub starts_none : (names : List (List ℕ)) (before now : List Given) → now ≡ before → StartsOnly names before now

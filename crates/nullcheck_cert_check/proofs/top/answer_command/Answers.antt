@@ -2,7 +2,8 @@ use Rattle.std.proofs.Common.{map}
 use Rattle.std.specs.Prelude.{string_bytes}
 use Rattle.jn_command.specs.Answer.{reading}
 use Rattle.jn_cli.specs.Cert.{command}
-use Rattle.nullcheck_cert_check.proofs.Answering.{are_inputs, many_answers, many_unread, many_written, no_fault, of_inputs}
+use Rattle.jn_command.proofs.Ending.{no_fault}
+use Rattle.nullcheck_cert_check.proofs.Answering.{are_inputs, many_answers, many_unread, many_written, of_inputs}
 use Rattle.jn_phases.proofs.Fitting.{few_reads, many_names}
 use Rattle.nullcheck_cert_check.proofs.top.answer_command.Goals as goal
 

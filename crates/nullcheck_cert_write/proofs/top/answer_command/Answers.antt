@@ -4,7 +4,8 @@ use Rattle.jn_front.specs.Files.{ReadFrom}
 use Rattle.jn_command.specs.Answer.{reading}
 use Rattle.jn_phases.proofs.Fitting.{few_reads, many_names}
 use Rattle.nullcheck_cert_write.specs.Answer.{outcome}
-use Rattle.nullcheck_cert_check.proofs.Answering.{many_unread, many_written, no_fault}
+use Rattle.jn_command.proofs.Ending.{no_fault}
+use Rattle.nullcheck_cert_check.proofs.Answering.{many_unread, many_written}
 use Rattle.nullcheck_cert_write.proofs.Telling.{many_answers}
 use Rattle.nullcheck_cert_write.proofs.top.answer_command.Goals as goal
 

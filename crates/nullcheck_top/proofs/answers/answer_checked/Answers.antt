@@ -9,7 +9,8 @@ use Rattle.jn_report.specs.Report.{IsReport}
 use Rattle.jn_safe_files.specs.Safe.{IsSafe}
 use Rattle.nullcheck_top.specs.Report.{AreNotes, RunsTo, Prints}
 use Rattle.nullcheck_top.proofs.Running.{run_answers}
-use Rattle.nullcheck_top.proofs.Written.{answers_files, no_fault, shown_made, status_written}
+use Rattle.jn_command.proofs.Ending.{no_fault}
+use Rattle.nullcheck_top.proofs.Written.{answers_files, shown_made, status_written}
 use Rattle.nullcheck_top.proofs.answers.answer_checked.Goals as goal
 
 pub returns-in-Some-clause-answer : goal.returns-in-Some-clause-answer

@@ -4,7 +4,8 @@ use Rattle.jn_front.specs.Files.{ReadFrom}
 use Rattle.jn_asked.specs.Asked.{asked_with}
 use Rattle.jn_command.specs.Answer.{reading}
 use Rattle.nullcheck_top.proofs.Answering.{checked_many, checked_read, many_answers, many_written}
-use Rattle.nullcheck_top.proofs.Written.{files_named, never_read, no_fault, of_files, starts_none}
+use Rattle.jn_command.proofs.Ending.{no_fault}
+use Rattle.nullcheck_top.proofs.Written.{files_named, never_read, of_files, starts_none}
 use Rattle.jn_phases.proofs.Fitting.{few_reads, many_names}
 use Rattle.jn_report.specs.Report.{IsReport}
 use Rattle.jn_safe_files.specs.Safe.{IsSafe}
